@@ -2,7 +2,7 @@
 use Rattle.std.proofs.Common.{◌≡◌, ℕ, Bool, List, Option, Result, IfOk}
 use Rattle.std.proofs.lemmas.Result.{IfOk-weaker}
 use Rattle.vault_volume.specs.declared.volume.Volume as volume
-use Rattle.vault_volume.specs.declared.file.FileVolume.{FileVolume}
+use Rattle.vault_volume.specs.HostFile.{HostVolume}
 use Rattle.sqlite.specs.Store.{Ghosts}
 use Rattle.sqlite.specs.Held.{Held}
 use Rattle.answer_lines.specs.Printing.{Writer}
@@ -12,11 +12,11 @@ use Rattle.escrow.specs.Folder.{ActsInFolder, BatchesFolder, HasActed, HasBatche
 use Rattle.escrow.specs.declared.files.FolderCallEnd.{FolderCallEnd}
 use Rattle.escrow.specs.declared.files.FolderCallEnd.TheVariants as end
 
-module _ (g : volume.Ghosts FileVolume) (output errors : Writer) (order : Order) (IsRead : List ℕ → Type 0) (lines : Option (List ℕ)) where
-  module _ (P : (S : Type 0) → Ghosts S → FileVolume → Held S → ℕ → Bool → FileVolume → Held S → Type 0) where
+module _ (g : volume.Ghosts HostVolume) (output errors : Writer) (order : Order) (IsRead : List ℕ → Type 0) (lines : Option (List ℕ)) where
+  module _ (P : (S : Type 0) → Ghosts S → HostVolume → Held S → ℕ → Bool → HostVolume → Held S → Type 0) where
     -- over whatever files, the order is done then
     abbrev IsDoneOverAny : Type 1
-    IsDoneOverAny = (S : Type 0) (database : Ghosts S) (volume : FileVolume) (db : Held S) (status : ℕ) (has_vault : Bool) (later : FileVolume) (then : Held S)
+    IsDoneOverAny = (S : Type 0) (database : Ghosts S) (volume : HostVolume) (db : Held S) (status : ℕ) (has_vault : Bool) (later : HostVolume) (then : Held S)
         → P S database volume db status has_vault later then → IsOrderDone g database volume db status has_vault later then output errors IsRead lines order
 
     over : IsDoneOverAny → (ended : FolderCallEnd) → IsOverFolder P order ended → HasEnded g output errors IsRead lines order ended

@@ -2,7 +2,7 @@
 use Rattle.std.specs.Prelude.{◌≡◌, ◌⊎◌, ℕ, List, Option, Ok, Err}
 use Rattle.clap.specs.Words.{Text}
 use Rattle.vault_volume.specs.declared.volume.Volume as volume
-use Rattle.vault_volume.specs.declared.file.FileVolume.{FileVolume}
+use Rattle.vault_volume.specs.HostFile.{HostVolume}
 use Rattle.agent_cli.specs.Faults.{IsStatusOf}
 use Rattle.agent_cli.specs.Order.{AnswersReading, ReadsWords}
 use Rattle.agent_cli.specs.declared.order.Order.{Order}
@@ -20,7 +20,7 @@ abbrev pub AreFaulty : List Text → WordFault → Type 0
 AreFaulty words fault = AnswersReading (ReadsWords words) (Err fault)
 
 -- `remaining` is what a file tells of its bytes.
-module _ {R : Type 0} (g : volume.Ghosts FileVolume) (remaining : R → Option (List ℕ)) where
+module _ {R : Type 0} (g : volume.Ghosts HostVolume) (remaining : R → Option (List ℕ)) where
   -- an order was done over a folder, with this status
   pub record IsObeyed (order : Order) (status : ℕ) : Type 0 where
     pub ended : FolderCallEnd

@@ -2,7 +2,7 @@
 use Rattle.std.specs.Prelude.{◌≡◌, ℕ, Bool, List, [], Option, None, Some, true, false, take, IfSome, MatchBool}
 use Rattle.clap.specs.Words.{Text}
 use Rattle.vault_volume.specs.declared.volume.Volume as volume
-use Rattle.vault_volume.specs.declared.file.FileVolume.{FileVolume}
+use Rattle.vault_volume.specs.HostFile.{HostVolume}
 use Rattle.vault_volume.specs.File.{is_new_file}
 use Rattle.sqlite.specs.Files.{over_files}
 use Rattle.sqlite.specs.Store.{Ghosts}
@@ -34,7 +34,7 @@ IsPartRead remaining (Some file) bytes = IfSome (remaining file) (λ all. bytes 
 
 -- Over the volume and the database of a folder: the status of an order, whether there is a vault, volume and database as
 -- they are handed back, and what is printed.
-module _ {S : Type 0} (g : volume.Ghosts FileVolume) (database : Ghosts S) (volume : FileVolume) (db : Held S) (status : ℕ) (has_vault : Bool) (later : FileVolume) (then : Held S) (output errors : Writer) where
+module _ {S : Type 0} (g : volume.Ghosts HostVolume) (database : Ghosts S) (volume : HostVolume) (db : Held S) (status : ℕ) (has_vault : Bool) (later : HostVolume) (then : Held S) (output errors : Writer) where
   -- the files were made, and an agent with this number was begun over them, or none
   pub record InitsFolder (blocks number : ℕ) : Type 0 where
     -- a new volume has so many blocks
@@ -81,16 +81,16 @@ end_status (end.Open ended) = ended.status
 end_status (end.ReadOnly ended) = ended.status
 
 -- the volume as it was handed back then
-abbrev pub end_volume : FolderCallEnd → FileVolume
+abbrev pub end_volume : FolderCallEnd → HostVolume
 end_volume (end.Open ended) = ended.volume
 end_volume (end.ReadOnly ended) = ended.volume
 
 -- What is said of a volume and a database, and of how a call over them ended, holds of the files of a folder: of those that were opened, or, for an order that only reads, of the volume that may not be written and a copy of the database.
-abbrev pub IsOverFolder : ((S : Type 0) → Ghosts S → FileVolume → Held S → ℕ → Bool → FileVolume → Held S → Type 0) → Order → FolderCallEnd → Type 0
+abbrev pub IsOverFolder : ((S : Type 0) → Ghosts S → HostVolume → Held S → ℕ → Bool → HostVolume → Held S → Type 0) → Order → FolderCallEnd → Type 0
 IsOverFolder P order (end.Open ended) = (files : OpenFolder) × P _ over_files files.volume files.db ended.status ended.has_vault ended.volume ended.db
 IsOverFolder P order (end.ReadOnly ended) = (only_reads order.deed ≡ true) × ((files : ReadOnlyFolder) × P _ over_files files.volume files.db ended.status ended.has_vault ended.volume ended.db)
 
-module _ (g : volume.Ghosts FileVolume) (output errors : Writer) where
+module _ (g : volume.Ghosts HostVolume) (output errors : Writer) where
   -- an order that acts was done over a folder
   abbrev pub HasActed : Order → List ℕ → FolderCallEnd → Type 0
   HasActed order bytes = IsOverFolder (λ S database volume db status has_vault later then. ActsInFolder g database volume db status has_vault later then output errors order bytes) order

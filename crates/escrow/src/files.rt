@@ -1,6 +1,5 @@
 //! The files: the two of a vault's folder, and the file that is put.
 ghost use Rattle.std.specs.Prelude.{◌≡◌, ◌++◌, true, false, codes, string_bytes, IfErr, IfOk};
-ghost use Rattle.vault_volume.specs.declared.file.FileVolume.{FileVolume};
 ghost use Rattle.vault_volume.specs.File.{is_new_file};
 ghost use Rattle.sqlite.specs.Files.{over_files};
 ghost use Rattle.custody_store.specs.StoreState.{store_state, HasMetaOrNone};
@@ -20,7 +19,7 @@ use sqlite_disk::Memory;
 use std::alloc::{AllocError, Global};
 use std::fs::{self, OpenOptions};
 use std::io::{self, Read};
-use vault_volume::{Access, FileVolume, Volume};
+use vault_volume::{Access, FileVolume, HostFiles, HostVolume, Volume};
 
 /// The database in a file. It supposes nothing of a torn write, so each commit syncs twice.
 pub type Database = Connection<FileStore<FileFrom<Wary>>>;
@@ -28,22 +27,22 @@ pub type Database = Connection<FileStore<FileFrom<Wary>>>;
 /// The two files of a vault's folder, open.
 #[derive(Drop)]
 pub struct OpenFolder {
-    pub volume: FileVolume,
+    pub volume: HostVolume,
     pub db: Database,
 }
 
 /// The two files of a vault's folder that may not be written: the volume, and a copy of the database.
 #[derive(Drop)]
 pub struct ReadOnlyFolder {
-    pub volume: FileVolume,
+    pub volume: HostVolume,
     pub db: DatabaseCopy,
 }
 
 /// How an order over a folder ended.
 #[derive(Drop)]
 pub enum FolderCallEnd {
-    Open(CallEnd<FileVolume, FileStore<FileFrom<Wary>>>),
-    ReadOnly(CallEnd<FileVolume, FileStore<Memory>>),
+    Open(CallEnd<HostVolume, FileStore<FileFrom<Wary>>>),
+    ReadOnly(CallEnd<HostVolume, FileStore<Memory>>),
 }
 
 impl FolderCallEnd {
@@ -98,7 +97,7 @@ pub fn read_part<R: Read + Drop>(
 
 /// Opens the two files of a folder, which have to be there.
 pub fn open_folder(rt: &HostRuntime, folder: &str) -> Result<OpenFolder, ProgramError>
-    ensures failures { IfOk result (λ files. ⟦<FileVolume as Volume>⟧.failures files.volume ≡ 0) }
+    ensures failures { IfOk result (λ files. ⟦<HostVolume as Volume>⟧.failures files.volume ≡ 0) }
     // It makes no volume.
     ensures found { IfOk result (λ files. is_new_file files.volume ≡ false) }
     ensures error { IfErr result IsOfVault }
@@ -111,7 +110,7 @@ pub fn open_folder(rt: &HostRuntime, folder: &str) -> Result<OpenFolder, Program
 
 /// Opens the two files of a folder only to read them.
 pub fn open_folder_to_read(rt: &HostRuntime, folder: &str) -> Result<ReadOnlyFolder, ProgramError>
-    ensures failures { IfOk result (λ files. ⟦<FileVolume as Volume>⟧.failures files.volume ≡ 0) }
+    ensures failures { IfOk result (λ files. ⟦<HostVolume as Volume>⟧.failures files.volume ≡ 0) }
     ensures found { IfOk result (λ files. is_new_file files.volume ≡ false) }
     ensures error { IfErr result IsOfVault }
 {
@@ -163,8 +162,8 @@ pub fn create_folder(
     folder: &str,
     blocks: u32,
 ) -> Result<OpenFolder, ProgramError>
-    ensures failures { IfOk result (λ files. ⟦<FileVolume as Volume>⟧.failures files.volume ≡ 0) }
-    ensures size { IfOk result (λ files. is_new_file files.volume ≡ true → ⟦<FileVolume as Volume>⟧.size files.volume ≡ blocks) }
+    ensures failures { IfOk result (λ files. ⟦<HostVolume as Volume>⟧.failures files.volume ≡ 0) }
+    ensures size { IfOk result (λ files. is_new_file files.volume ≡ true → ⟦<HostVolume as Volume>⟧.size files.volume ≡ blocks) }
     // A volume is made anew only where nothing is listed.
     ensures bare { IfOk result (λ files. is_new_file files.volume ≡ true → ListsNothing (store_state over_files files.db)) }
     // So the database has no record of one.
@@ -201,12 +200,12 @@ fn with_volume<S: Alter + Drop>(
     folder: &str,
     blocks: u32,
     db: Connection<S>,
-) -> Result<(FileVolume, Connection<S>), ProgramError>
-    ensures failures { IfOk result (λ files. ⟦<FileVolume as Volume>⟧.failures files.0 ≡ 0) }
+) -> Result<(HostVolume, Connection<S>), ProgramError>
+    ensures failures { IfOk result (λ files. ⟦<HostVolume as Volume>⟧.failures files.0 ≡ 0) }
     ensures bare { IfOk result (λ files. is_new_file files.0 ≡ true → ListsNothing (store_state S.Store files.1)) }
     ensures unrecorded { IfOk result (λ files. is_new_file files.0 ≡ true → HasMetaOrNone (store_state S.Store files.1) → (store_state S.Store files.1).IsHonest
         → HasNoRecord (store_state S.Store files.1).rows) }
-    ensures size { IfOk result (λ files. is_new_file files.0 ≡ true → ⟦<FileVolume as Volume>⟧.size files.0 ≡ blocks) }
+    ensures size { IfOk result (λ files. is_new_file files.0 ≡ true → ⟦<HostVolume as Volume>⟧.size files.0 ≡ blocks) }
     ensures error { IfErr result IsOfVault }
 {
     let mut db = db;
@@ -234,7 +233,7 @@ fn lists_nothing<S: Alter>(db: &Connection<S>) -> bool
 
 /// Closes the database of a vault, and hands the volume back, whose lock is held until then. What was
 /// acknowledged is kept also where the database's log cannot be copied.
-pub fn close_database(ended: FolderCallEnd) -> FileVolume
+pub fn close_database(ended: FolderCallEnd) -> HostVolume
     ensures { result ≡ end_volume ended }
 {
     match ended {
@@ -313,25 +312,25 @@ fn volume_path(alloc: Global, folder: &str) -> Result<String, AllocError>
     format!(in alloc; "{folder}/vault.vol")
 }
 
-fn open_volume(rt: &HostRuntime, folder: &str, access: Access) -> Result<FileVolume, ProgramError>
-    ensures failures { IfOk result (λ volume. ⟦<FileVolume as Volume>⟧.failures volume ≡ 0) }
+fn open_volume(rt: &HostRuntime, folder: &str, access: Access) -> Result<HostVolume, ProgramError>
+    ensures failures { IfOk result (λ volume. ⟦<HostVolume as Volume>⟧.failures volume ≡ 0) }
     ensures found { IfOk result (λ volume. is_new_file volume ≡ false) }
     ensures error { IfErr result IsOfVault }
 {
     let path = volume_path(rt.alloc(), folder)?;
-    match FileVolume::open(rt, &path, access) {
+    match FileVolume::open(&mut HostFiles::new(rt), &path, access) {
         Ok(volume) => Ok(volume),
         Err(cause) => Err(ProgramError::of_file(rt.alloc(), &path, cause)),
     }
 }
 
-fn create_volume(rt: &HostRuntime, folder: &str, blocks: u32) -> Result<FileVolume, ProgramError>
-    ensures failures { IfOk result (λ volume. ⟦<FileVolume as Volume>⟧.failures volume ≡ 0) }
-    ensures size { IfOk result (λ volume. ⟦<FileVolume as Volume>⟧.size volume ≡ blocks) }
+fn create_volume(rt: &HostRuntime, folder: &str, blocks: u32) -> Result<HostVolume, ProgramError>
+    ensures failures { IfOk result (λ volume. ⟦<HostVolume as Volume>⟧.failures volume ≡ 0) }
+    ensures size { IfOk result (λ volume. ⟦<HostVolume as Volume>⟧.size volume ≡ blocks) }
     ensures error { IfErr result IsOfVault }
 {
     let path = volume_path(rt.alloc(), folder)?;
-    match FileVolume::create(rt, &path, blocks) {
+    match FileVolume::create(&mut HostFiles::new(rt), &path, blocks) {
         Ok(volume) => {
             sync_folder(rt, folder)?;
             Ok(volume)

@@ -37,7 +37,7 @@ use std::process::ExitCode;
 use streams::hold_streams;
 use terminal::Terminal;
 use vault_calls::{batch, init_vault, open_and_act, serve};
-use vault_volume::{FileVolume, Volume};
+use vault_volume::{HostVolume, Volume};
 
 /// What is said where standard output does not take all that is printed.
 const OUTPUT_FAILED: &str = "output failed";
@@ -67,7 +67,7 @@ fn act_in_folder<W: Write, E: Write>(
     out: &mut W,
     err: &mut E,
 ) -> Result<FolderCallEnd, ProgramError>
-    ensures done { IfOk result (HasActed ⟦<FileVolume as Volume>⟧ (record { before = W.contents out.old; after = W.contents out.new }) (record { before = E.contents err.old; after = E.contents err.new }) order.entry.now file.now) }
+    ensures done { IfOk result (HasActed ⟦<HostVolume as Volume>⟧ (record { before = W.contents out.old; after = W.contents out.new }) (record { before = E.contents err.old; after = E.contents err.new }) order.entry.now file.now) }
     ensures error { IfErr result IsProgramFailure }
 {
     let now = clock::moment_of(rt, order)?;
@@ -95,7 +95,7 @@ fn begin_in_folder<W: Write, E: Write>(
     out: &mut W,
     err: &mut E,
 ) -> Result<FolderCallEnd, ProgramError>
-    ensures done { IfOk result (HasBegunInFolder ⟦<FileVolume as Volume>⟧ (record { before = W.contents out.old; after = W.contents out.new }) (record { before = E.contents err.old; after = E.contents err.new }) order.entry.now blocks number) }
+    ensures done { IfOk result (HasBegunInFolder ⟦<HostVolume as Volume>⟧ (record { before = W.contents out.old; after = W.contents out.new }) (record { before = E.contents err.old; after = E.contents err.new }) order.entry.now blocks number) }
     ensures error { IfErr result IsProgramFailure }
 {
     let made = create_folder(rt, order.folder, blocks)?;
@@ -111,7 +111,7 @@ fn batch_in_folder<L: Read + Drop, W: Write, E: Write>(
     out: &mut W,
     err: &mut E,
 ) -> Result<FolderCallEnd, ProgramError>
-    ensures done { IfOk result (HasBatchedInFolder ⟦<FileVolume as Volume>⟧ (record { before = W.contents out.old; after = W.contents out.new }) (record { before = E.contents err.old; after = E.contents err.new }) order.entry.now (L.remaining lines)) }
+    ensures done { IfOk result (HasBatchedInFolder ⟦<HostVolume as Volume>⟧ (record { before = W.contents out.old; after = W.contents out.new }) (record { before = E.contents err.old; after = E.contents err.new }) order.entry.now (L.remaining lines)) }
     ensures error { IfErr result IsProgramFailure }
 {
     let found = open_folder(rt, order.folder)?;
@@ -129,7 +129,7 @@ fn serve_in_folder<W: Write, E: Write>(
     out: &mut W,
     err: &mut E,
 ) -> Result<FolderCallEnd, ProgramError>
-    ensures done { IfOk result (HasServedInFolder ⟦<FileVolume as Volume>⟧ (record { before = W.contents out.old; after = W.contents out.new }) (record { before = E.contents err.old; after = E.contents err.new }) order.entry.now port requests until_closed) }
+    ensures done { IfOk result (HasServedInFolder ⟦<HostVolume as Volume>⟧ (record { before = W.contents out.old; after = W.contents out.new }) (record { before = E.contents err.old; after = E.contents err.new }) order.entry.now port requests until_closed) }
     ensures error { IfErr result IsProgramFailure }
 {
     let found = open_folder(rt, order.folder)?;
@@ -148,7 +148,7 @@ fn carry_out<R: Read + Drop, L: Read + Drop, W: Write, E: Write>(
     out: &mut W,
     err: &mut E,
 ) -> Result<FolderCallEnd, ProgramError>
-    ensures done { IfOk result (HasEnded ⟦<FileVolume as Volume>⟧ (record { before = W.contents out.old; after = W.contents out.new }) (record { before = E.contents err.old; after = E.contents err.new }) (IsPartRead R.remaining part) (L.remaining lines) order.entry.now) }
+    ensures done { IfOk result (HasEnded ⟦<HostVolume as Volume>⟧ (record { before = W.contents out.old; after = W.contents out.new }) (record { before = E.contents err.old; after = E.contents err.new }) (IsPartRead R.remaining part) (L.remaining lines) order.entry.now) }
     ensures error { IfErr result IsProgramFailure }
 {
     match order.deed {
@@ -178,7 +178,7 @@ fn carry_out<R: Read + Drop, L: Read + Drop, W: Write, E: Write>(
 
 /// Carries out an order, closes the files of its folder, and answers its status.
 fn obey(rt: &HostRuntime, order: &Order<'_>) -> Result<u8, ProgramError>
-    ensures done { IfOk result (IsObeyed ⟦<FileVolume as Volume>⟧ ⟦<std::fs::File as Read>⟧.remaining order.entry.now) }
+    ensures done { IfOk result (IsObeyed ⟦<HostVolume as Volume>⟧ ⟦<std::fs::File as Read>⟧.remaining order.entry.now) }
     ensures error { IfErr result IsProgramFailure }
 {
     let _streams = hold_streams(rt)?;
@@ -198,7 +198,7 @@ fn obey(rt: &HostRuntime, order: &Order<'_>) -> Result<u8, ProgramError>
 
 /// Does what the words of a call ask for, and answers the status. The first of them is the program's name.
 fn call(rt: &HostRuntime, words: &[String]) -> Result<u8, ProgramError>
-    ensures done { IfOk result (EndsCall ⟦<FileVolume as Volume>⟧ ⟦<std::fs::File as Read>⟧.remaining (map string_bytes words.now)) }
+    ensures done { IfOk result (EndsCall ⟦<HostVolume as Volume>⟧ ⟦<std::fs::File as Read>⟧.remaining (map string_bytes words.now)) }
     ensures error { IfErr result (λ error. IsProgramFailure error × ((order : Order) × AskFor (map string_bytes words.now) order)) }
 {
     match order_of(rt.alloc(), words) {

@@ -186,10 +186,9 @@ pub fn live_once(
     }
 }
 
-/// Whether a filling is as long as the volume, which can count a failure more.
+/// Whether a filling is as long as the volume.
 fn may_restart(volume: &MemVolume, fill: &[u8]) -> bool
-    ensures fits { IsTrue result → length fill.now ≡ 4096 * ⟦<MemVolume as Volume>⟧.size volume.now }
-    ensures count { IsTrue result → ⟦<MemVolume as Volume>⟧.failures volume.now < 2 ^ 64 - 1 }
+    ensures { IsTrue result → length fill.now ≡ 4096 * ⟦<MemVolume as Volume>⟧.size volume.now }
 {
-    fill.len() as u64 == BLOCK_BYTES * u64::from(volume.size()) && volume.failures() < u64::MAX
+    fill.len() as u64 == BLOCK_BYTES * u64::from(volume.size())
 }

@@ -5,8 +5,8 @@ use std::alloc::Global;
 use std::test::Fail;
 use std::{env, fs, process};
 use vault_volume::{
-    Access, BLOCK_BYTES, Extent, ExtentMap, FileError, FileVolume, MemVolume, Staged, Vault,
-    Volume, read_head, write_head,
+    Access, BLOCK_BYTES, BlockFile, Extent, ExtentMap, FileError, FileVolume, HostFiles, MemFile,
+    MemFiles, MemVolume, Staged, Vault, Volume, read_head, write_head,
 };
 
 const BLOCK: usize = BLOCK_BYTES as usize;
@@ -355,7 +355,7 @@ fn with_room_for_three_calls_the_fourth_fails(rt: HostRuntime) -> Result<(), Fai
     Ok(())
 }
 
-fn has_kind(opened: Result<FileVolume, FileError>, kind: &str) -> bool {
+fn has_kind<F: BlockFile>(opened: Result<FileVolume<F>, FileError>, kind: &str) -> bool {
     let found = match opened {
         Ok(_) => "opened",
         Err(FileError::Missing) => "missing",
@@ -366,30 +366,108 @@ fn has_kind(opened: Result<FileVolume, FileError>, kind: &str) -> bool {
     found == kind
 }
 
+// The number of the system's error by which the last call failed.
+fn cause_of<F: BlockFile>(volume: &FileVolume<F>) -> Option<i32> {
+    volume.cause()?.raw_os_error()
+}
+
 #[test]
 fn a_file_is_opened_again(rt: HostRuntime) -> Result<(), Fail> {
     let name_of = format!(in rt.alloc(); "vault-volume-test-{}", process::id(rt.process()))?;
     let folder = env::temp_dir(&rt)?.join(rt.alloc(), name_of.as_str())?;
     let path = folder.as_path().as_str();
-    assert!(rt; has_kind(FileVolume::open(&rt, path, Access::ReadAndWrite), "missing"));
-    let mut volume = FileVolume::create(&rt, path, 3)?;
-    assert!(rt; has_kind(FileVolume::open(&rt, path, Access::ReadAndWrite), "locked"));
-    assert!(rt; has_kind(FileVolume::create(&rt, path, 1), "locked"));
+    let mut files = HostFiles::new(&rt);
+    assert!(rt;
+        has_kind(
+            FileVolume::open(&mut files, path, Access::ReadAndWrite),
+            "missing"
+        )
+    );
+    let mut volume = FileVolume::create(&mut files, path, 3)?;
+    assert!(rt;
+        has_kind(
+            FileVolume::open(&mut files, path, Access::ReadAndWrite),
+            "locked"
+        )
+    );
+    assert!(rt; has_kind(FileVolume::create(&mut files, path, 1), "locked"));
     assert!(rt; name(&mut volume));
     let (volume, staged) = keep_from(rt.alloc(), volume, 1, &HELD);
     assert!(rt; staged && volume.size() == 3);
     drop(volume);
-    let mut volume = FileVolume::open(&rt, path, Access::ReadAndWrite)?;
+    let mut volume = FileVolume::open(&mut files, path, Access::ReadAndWrite)?;
     assert_eq!(rt; (volume.size(), number_of(&mut volume)), (3, Some(NUMBER)));
     let (volume, out) = held(rt.alloc(), volume);
     assert_eq!(rt; out.as_slice(), HELD.as_slice());
     drop(volume);
-    let mut volume = FileVolume::open(&rt, path, Access::Read)?;
+    let mut volume = FileVolume::open(&mut files, path, Access::Read)?;
+    assert!(rt; volume.cause().is_none());
     assert!(rt; !name(&mut volume));
+    // A file that is open only to be read is no file to write: EBADF.
+    assert_eq!(rt; (volume.failures(), cause_of(&volume)), (1, Some(9)));
     assert_eq!(rt; number_of(&mut volume), Some(NUMBER));
     drop(volume);
     fs::write(&rt, path, b"short")?;
-    assert!(rt; has_kind(FileVolume::open(&rt, path, Access::ReadAndWrite), "length"));
+    assert!(rt;
+        has_kind(
+            FileVolume::open(&mut files, path, Access::ReadAndWrite),
+            "length"
+        )
+    );
     fs::remove_file(&rt, path)?;
+    Ok(())
+}
+
+// The machine of the volume's file stops and comes back.
+fn stop(files: &mut MemFiles, volume: FileVolume<MemFile>, fill: &[u8]) {
+    if fill.len() == BLOCK * volume.size() as usize {
+        files.restart(volume.into_file(), fill);
+    }
+}
+
+// Writes four bytes into block 2, and does not sync.
+fn is_written<V: Volume>(volume: &mut V) -> bool {
+    volume.size() > 2 && volume.failures() < 9 && volume.write_at(2 * BLOCK_BYTES, b"lost").is_ok()
+}
+
+// The first eight bytes of block 2.
+fn read_back<V: Volume>(volume: &mut V) -> [u8; 8] {
+    let mut out = [1; 8];
+    if volume.size() > 2 && volume.failures() < 9 {
+        let _ = volume.read(2 * BLOCK_BYTES, &mut out);
+    }
+    out
+}
+
+#[test]
+fn a_file_in_memory_is_opened_after_a_stop(rt: HostRuntime) -> Result<(), Fail> {
+    let mut files = MemFiles::new(rt.alloc(), format!(in rt.alloc(); "a")?, 5, 2);
+    assert!(rt;
+        has_kind(
+            FileVolume::open(&mut files, "a", Access::ReadAndWrite),
+            "missing"
+        )
+    );
+    assert!(rt; has_kind(FileVolume::create(&mut files, "b", 3), "io"));
+    let mut volume = FileVolume::create(&mut files, "a", 3)?;
+    assert!(rt; name(&mut volume));
+    let (mut volume, staged) = keep_from(rt.alloc(), volume, 1, &HELD);
+    assert!(rt; staged && is_written(&mut volume) && volume.cause().is_none());
+    // It has room for no more calls.
+    assert!(rt; !is_written(&mut volume) && volume.cause().is_some());
+    let fill = vec![in rt.alloc(); b'?'; 3 * BLOCK]?;
+    stop(&mut files, volume, &fill);
+    assert!(rt;
+        has_kind(
+            FileVolume::open(&mut files, "b", Access::ReadAndWrite),
+            "missing"
+        )
+    );
+    let mut volume = FileVolume::open(&mut files, "a", Access::ReadAndWrite)?;
+    assert_eq!(rt; (volume.size(), volume.failures()), (3, 0));
+    assert_eq!(rt; number_of(&mut volume), Some(NUMBER));
+    assert_eq!(rt; read_back(&mut volume), *b"????\0\0\0\0");
+    let (_, out) = held(rt.alloc(), volume);
+    assert_eq!(rt; out.as_slice(), HELD.as_slice());
     Ok(())
 }

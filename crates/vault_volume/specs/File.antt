@@ -1,12 +1,17 @@
--- A volume that is a file.
+-- A volume that is a file, and why there is none in a file.
 use Rattle.std.specs.Prelude.{◌≢◌, ℕ, ◌*◌, ◌<◌, ◌^◌, ◌++◌, Bool, List, Option, Some, None, codes, decimal}
-use Rattle.vault_volume.specs.declared.file.FileVolume.{FileVolume}
-use Rattle.vault_volume.specs.declared.file.FileError.{FileError}
-use Rattle.vault_volume.specs.declared.file.FileError.TheVariants.{Missing, Locked, WrongLength, Io}
+use Rattle.vault_volume.specs.declared.block_file.BlockFile as block_file
+use Rattle.vault_volume.specs.declared.file_volume.FileVolume.{FileVolume}
+use Rattle.vault_volume.specs.declared.file_error.FileError.{FileError}
+use Rattle.vault_volume.specs.declared.file_error.FileError.TheVariants.{Missing, Locked, WrongLength, Io}
 
--- whether its blocks were made anew, all zero, when the file was opened
-abbrev pub is_new_file : FileVolume → Bool
-is_new_file volume = volume.is_new
+module _ {F : Type 0} {g : block_file.Ghosts F} where
+  -- whether its blocks were made anew, all zero, when the file was opened
+  abbrev pub is_new_file : FileVolume F g → Bool
+  is_new_file volume = volume.is_new
+
+  abbrev pub block_file_of : FileVolume F g → F
+  block_file_of volume = volume.file
 
 -- a file is refused for its length only where that is no number of blocks
 abbrev pub IsRefusedRightly : FileError → Type 0

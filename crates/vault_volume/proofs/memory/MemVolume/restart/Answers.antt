@@ -29,5 +29,6 @@ returns c =
           (λ i some. at i _ _ (start ∙ second) ∙ c.leave_unsettled.ensures.filled i (omega (arith, at i _ _ c.deref-2.ensures.value))) elsewhere;
       failures = search rules;
       calls = search rules;
+      uncalled = (search rules, refl, refl, start);
       script = search rules;
     }

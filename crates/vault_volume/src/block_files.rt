@@ -1,0 +1,40 @@
+//! The files of a machine, as far as a volume needs them.
+ghost use Rattle.std.specs.Prelude.{◌≡◌, ◌≢◌, ◌*◌, ℕ, List, Option, Some, None, IfErr, IfOk, IsErrOf, replicate};
+ghost use Rattle.vault_volume.specs.Disk.{LeavesOneImage};
+ghost use Rattle.vault_volume.specs.File.{IsNotOfLength};
+
+use crate::{BlockFile, FileError};
+
+/// What the file of a volume is opened for.
+#[derive(Clone, Copy)]
+pub enum Access {
+    Read,
+    ReadAndWrite,
+}
+
+/// Each method opens the file of a path, locked against each other one who would open it so.
+pub trait BlockFiles {
+    type File: BlockFile;
+
+    /// The bytes of the file of a path, where there is one that is not open.
+    ghost holds: { Self → List ℕ → Option (List ℕ) };
+
+    /// The file that is there. Where it is opened only to be read, a call that writes may fail.
+    fn find(&mut self, path: &str, access: Access) -> Result<Self::File, FileError>
+        ensures fresh { IfOk result (λ f. Self.File.failures f ≡ 0) }
+        ensures missing { Self.File.tells → IsErrOf result FileError.Missing → holds self.old path.now ≡ None }
+        ensures locked { Self.File.tells → IsErrOf result FileError.Locked → holds self.old path.now ≡ None }
+        ensures found { Self.File.tells → IfOk result (λ f. holds self.old path.now ≡ Some (Self.File.image f)) }
+        ensures settled { Self.File.tells → IfOk result (λ f. LeavesOneImage (Self.File.image f) (Self.File.left_at f (Self.File.moment f))) }
+        // The files of other paths stay.
+        ensures others { Self.File.tells → (other : List ℕ) → other ≢ path.now → holds self.new other ≡ holds self.old other }
+        ensures kind { IfErr result IsNotOfLength };
+
+    /// Makes the file with so many blocks of zero bytes, also where there is one of that name.
+    fn make(&mut self, path: &str, blocks: u32) -> Result<Self::File, FileError>
+        ensures fresh { IfOk result (λ f. Self.File.failures f ≡ 0) }
+        ensures zeros { Self.File.tells → IfOk result (λ f. Self.File.image f ≡ replicate (4096 * blocks) 0) }
+        ensures settled { Self.File.tells → IfOk result (λ f. LeavesOneImage (Self.File.image f) (Self.File.left_at f (Self.File.moment f))) }
+        ensures others { Self.File.tells → (other : List ℕ) → other ≢ path.now → holds self.new other ≡ holds self.old other }
+        ensures kind { IfErr result IsNotOfLength };
+}
