@@ -11,7 +11,9 @@ built by then fails.
 
 The output of a step stands in out/gate/N.log while it runs, and is printed when it ends. Then come two tables, which
 `bench/keep.py --gate` keeps: the minutes of each step, and the minute at which `rt ci` had proved each crate. The last
-lines say how much memory stayed free, and count the steps.
+lines say how much memory and disk stayed free, and count the steps.
+
+If less than 1 GB of disk is free, the gate ends all steps and says so. By itself `rt ci` would blame a contract.
 
 It needs rt and git. As root on Debian it installs the tools that tests/run needs; else they have to be there.
 """
@@ -22,6 +24,7 @@ import shutil
 import signal
 import subprocess
 import sys
+import tempfile
 import time
 from dataclasses import dataclass
 from pathlib import Path
@@ -32,6 +35,8 @@ from lib import TOP, parser, tell
 LOGS = TOP / "out" / "gate"
 # The seconds between two looks at what runs, and those that a step has to end when it is asked to.
 TICK, GRACE = 0.2, 10
+# The disk that has to stay free, in GB.
+LEAST_DISK = 1
 # What ends the gate, and all that it has started.
 SIGNALS = (signal.SIGINT, signal.SIGTERM, signal.SIGHUP)
 
@@ -74,6 +79,15 @@ def minutes(seconds: float) -> str:
 def free_memory() -> float:
     """The memory that is free, in GB."""
     return int(re.search(r"MemAvailable:\s+(\d+)", Path("/proc/meminfo").read_text())[1]) / 1e6
+
+
+def free_disk() -> float:
+    """The disk that is free, in GB, for the checkout and for temporary files."""
+    return min(shutil.disk_usage(it).free for it in (TOP, tempfile.gettempdir())) / 1e9
+
+
+def full_disk(free: float) -> str:
+    return f"the disk is full ({free:.1f} GB are free): remove crates/*/out of other checkouts"
 
 
 def table(heads: tuple[str, ...], rows: list[tuple[str, ...]]) -> str:
@@ -196,7 +210,7 @@ class Gate:
 
     def __init__(self) -> None:
         self.since, self.left, self.running, self.ended = time.monotonic(), [*SCRIPTS], [], []
-        self.free = free_memory()
+        self.memory, self.disk = free_memory(), free_disk()
 
     def say(self, text: str) -> None:
         print(f"{minutes(time.monotonic() - self.since)} min  {text}", flush=True)
@@ -243,7 +257,7 @@ class Gate:
         print()
         print(table(("step", "minutes by the clock", "of the processor"), [*steps, every]))
         print(table(("crate", "proved at minute", "after those below", "its tests", "edits"), self.crates.rows()))
-        print(f"At least {self.free:.1f} GB of memory stayed free.")
+        print(f"At least {self.memory:.1f} GB of memory and {self.disk:.1f} GB of disk stayed free.")
         failed = sum(bool(it.why) for it in self.ended)
         return tell(len(self.ended) - failed, failed + len(self.left))
 
@@ -256,11 +270,22 @@ class Gate:
             self.end_steps()
             self.crates.read()
             self.begin_script()
-            self.free = min(self.free, free_memory())
+            self.memory, self.disk = min(self.memory, free_memory()), min(self.disk, free_disk())
             if not self.running:
+                break
+            if self.disk < LEAST_DISK:
+                self.give_up(full_disk(self.disk))
                 break
             time.sleep(TICK)
         return self.tell()
+
+    def give_up(self, why: str) -> None:
+        """Ends the steps that run. They and those that are left have failed."""
+        for it in self.running:
+            it.stop(why)
+        self.end_steps()
+        for it in self.left:
+            print(f"FAILED: {it.command}: {why}", flush=True)
 
     def close(self) -> None:
         """Ends what runs, if the gate is stopped."""
@@ -283,6 +308,8 @@ def main() -> int:
     if asked.list:
         print(columns([("step", "needs"), *((it.command, it.needs) for it in [PROOFS, *SCRIPTS])]), end="")
         return 0
+    if (free := free_disk()) < LEAST_DISK:
+        sys.exit(f"FAILED: {full_disk(free)}")
     for it in SIGNALS:
         signal.signal(it, stopped)
     gate = Gate()

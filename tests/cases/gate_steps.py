@@ -10,7 +10,7 @@ from collections.abc import Callable
 from pathlib import Path
 
 from gate import SCRIPTS
-from lib import LIMIT, TOP, Room, case, each
+from lib import LIMIT, TOP, Room, Skip, case, each
 
 CRATES = ("deposit", "bench_tools", "escrow", "agent_script")
 
@@ -19,13 +19,13 @@ def stub(room: Room, name: str, text: str) -> None:
     room.file(name, f"#!/bin/sh\n{text}\n").chmod(0o755)
 
 
-def prepare(room: Room, rt: str, broken: str = "") -> None:
-    """Makes a repository of the gate and stubs. The script `broken` fails."""
+def prepare(room: Room, rt: str, broken: str = "", below: str = "") -> None:
+    """Makes a repository of the gate and stubs, in the folder `below`. The script `broken` fails."""
     for it in ("tests/gate.py", "tests/blocks.py", "tests/lib.py", "crates.txt"):
-        shutil.copy(TOP / it, room.file(it, ""))
-    stub(room, "rt", rt)
+        shutil.copy(TOP / it, room.file(below + it, ""))
+    stub(room, f"{below}rt", rt)
     for name in {shlex.split(it.command)[0] for it in SCRIPTS}:
-        stub(room, name, "exit 1" if name == broken else "echo it ran")
+        stub(room, below + name, "exit 1" if name == broken else "echo it ran")
 
 
 def commands(*crates: str) -> list[str]:
@@ -69,3 +69,21 @@ def the_gate_ends_what_it_began(room: Room) -> None:
     room.equal(128 + signal.SIGTERM, gate.wait(LIMIT), "the status")
     began = (room.folder / "began").read_text().split()
     room.true(comes(lambda: not any(Path(f"/proc/{it}").exists() for it in began)), "what it began still runs")
+
+
+@each([
+    ("before it begins", "1M", "", {""}),
+    ("while it runs", "1100M", "head -c 200M /dev/zero > filler; sleep 1000", {"rt ci", "tests/run"}),
+], seconds=5)
+def a_full_disk_ends_the_gate(room: Room, size: str, rt: str, failed: set[str]) -> None:
+    if room.run(f"mkdir small && mount -t tmpfs -o size={size} tmpfs small").status:
+        raise Skip("no tmpfs can be mounted")
+    try:
+        prepare(room, rt, below="small/")
+        done = room.run("cd small && PATH=$PWD:$PATH python3 tests/gate.py 2>&1")
+    finally:
+        room.run("umount small")
+    said = done.out.decode()
+    full = re.findall(r"^FAILED: (?:(.*): )?the disk is full ", said, re.MULTILINE)
+    room.true(failed <= {*full}, f"what failed in\n{said}")
+    room.equal(1, done.status, "the status")
