@@ -1,5 +1,5 @@
 //! The files of a machine, as far as a volume needs them.
-ghost use Rattle.std.specs.Prelude.{◌≡◌, ◌≢◌, ◌*◌, ℕ, List, Option, Some, None, IfErr, IfOk, IsErrOf, replicate};
+ghost use Rattle.std.specs.Prelude.{◌≡◌, ◌≢◌, ◌*◌, ℕ, List, Option, Some, None, IfErr, IfOk, IsErrOf, OnErr, OnOk, replicate};
 ghost use Rattle.vault_volume.specs.Disk.{LeavesOneImage};
 ghost use Rattle.vault_volume.specs.File.{IsNotOfLength};
 
@@ -26,15 +26,20 @@ pub trait BlockFiles {
         ensures locked { Self.File.tells → IsErrOf result FileError.Locked → holds self.old path.now ≡ None }
         ensures found { Self.File.tells → IfOk result (λ f. holds self.old path.now ≡ Some (Self.File.image f)) }
         ensures settled { Self.File.tells → IfOk result (λ f. LeavesOneImage (Self.File.image f) (Self.File.left_at f (Self.File.moment f))) }
+        ensures opened { Self.File.tells → OnOk result (holds self.new path.now ≡ None) }
+        ensures unopened { Self.File.tells → OnErr result (holds self.new path.now ≡ holds self.old path.now) }
         // The files of other paths stay.
         ensures others { Self.File.tells → (other : List ℕ) → other ≢ path.now → holds self.new other ≡ holds self.old other }
         ensures kind { IfErr result IsNotOfLength };
 
-    /// Makes the file with so many blocks of zero bytes, also where there is one of that name.
+    /// Makes the file with so many blocks of zero bytes, also where there is one of that name. One that is
+    /// locked is left as it is; another failure may leave any bytes.
     fn make(&mut self, path: &str, blocks: u32) -> Result<Self::File, FileError>
         ensures fresh { IfOk result (λ f. Self.File.failures f ≡ 0) }
         ensures zeros { Self.File.tells → IfOk result (λ f. Self.File.image f ≡ replicate (4096 * blocks) 0) }
         ensures settled { Self.File.tells → IfOk result (λ f. LeavesOneImage (Self.File.image f) (Self.File.left_at f (Self.File.moment f))) }
+        ensures opened { Self.File.tells → OnOk result (holds self.new path.now ≡ None) }
+        ensures locked { Self.File.tells → IsErrOf result FileError.Locked → holds self.new path.now ≡ holds self.old path.now }
         ensures others { Self.File.tells → (other : List ℕ) → other ≢ path.now → holds self.new other ≡ holds self.old other }
         ensures kind { IfErr result IsNotOfLength };
 }

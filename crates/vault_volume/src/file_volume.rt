@@ -66,6 +66,8 @@ impl<F: BlockFile> FileVolume<F> {
         ensures zeros { F.tells → IfOk result (λ v. ⟦<FileVolume<F> as Volume>⟧.image v ≡ replicate (4096 * blocks) 0) }
         ensures settled { F.tells → IfOk result (λ v. LeavesOneImage (⟦<FileVolume<F> as Volume>⟧.image v) (⟦<FileVolume<F> as Volume>⟧.left_at v (⟦<FileVolume<F> as Volume>⟧.moment v))) }
         ensures made { IfOk result (λ v. is_new_file v ≡ true) }
+        ensures opened { F.tells → OnOk result (H.holds files.new path.now ≡ None) }
+        ensures locked { F.tells → IsErrOf result FileError.Locked → H.holds files.new path.now ≡ H.holds files.old path.now }
         // The files of other paths stay.
         ensures others { F.tells → (other : List ℕ) → other ≢ path.now → H.holds files.new other ≡ H.holds files.old other }
         ensures kind { IfErr result IsNotOfLength }
@@ -90,6 +92,7 @@ impl<F: BlockFile> FileVolume<F> {
         ensures image { F.tells → IfOk result (λ v. H.holds files.old path.now ≡ Some (⟦<FileVolume<F> as Volume>⟧.image v)) }
         ensures settled { F.tells → IfOk result (λ v. LeavesOneImage (⟦<FileVolume<F> as Volume>⟧.image v) (⟦<FileVolume<F> as Volume>⟧.left_at v (⟦<FileVolume<F> as Volume>⟧.moment v))) }
         ensures found { IfOk result (λ v. is_new_file v ≡ false) }
+        ensures opened { F.tells → OnOk result (H.holds files.new path.now ≡ None) }
         // The files of other paths stay.
         ensures others { F.tells → (other : List ℕ) → other ≢ path.now → H.holds files.new other ≡ H.holds files.old other }
     {

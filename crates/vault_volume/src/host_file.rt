@@ -66,11 +66,16 @@ impl<'a, R: Files<File = File>> BlockFiles for HostFiles<'a, R> {
     /// Where the file is opened only to be read, each call that writes fails.
     fn find(&mut self, path: &str, access: Access) -> Result<HostFile, FileError> {
         let is_written = matches!(access, Access::ReadAndWrite);
-        open_locked(
+        let found = open_locked(
             self.rt,
             path,
             OpenOptions::new().read(true).write(is_written),
-        )
+        )?;
+        // A process that was killed may have left writes that no sync has settled.
+        if is_written {
+            found.file.sync_all().map_err(FileError::Io)?;
+        }
+        Ok(found)
     }
 
     fn make(&mut self, path: &str, blocks: u32) -> Result<HostFile, FileError> {
