@@ -1,5 +1,5 @@
 //! A machine in memory, for tests and for theorems: its one file is a `MemVolume`.
-ghost use Rattle.std.specs.Prelude.{◌≡◌, ℕ, List, Some, None, length, string_bytes, is_ok};
+ghost use Rattle.std.specs.Prelude.{◌≡◌, ℕ, List, Some, None, length, string_bytes, is_ok, is_some};
 ghost use Rattle.std.specs.Option.{ForSome};
 ghost use Rattle.vault_volume.specs.inside.MemVolume.{IsUncalled};
 
@@ -73,6 +73,13 @@ impl MemFiles {
             syncs,
             volume: None,
         }
+    }
+
+    /// Whether it holds a file of this path that is not open.
+    pub fn has(&self, path: &str) -> bool
+        ensures { result ≡ is_some (⟦<MemFiles as BlockFiles>⟧.holds self.now path.now) }
+    {
+        self.name.as_str() == path && self.volume.is_some()
     }
 
     /// The machine comes back after a stop. What was open in its file holds the bytes of `fill` there.
