@@ -7,8 +7,8 @@ It takes the commands of the life of a deposit, each over a copy of the vault as
 the folder, `vault.vol`, `custody.db` and the log `custody.db-wal` fails in turn with EIO, with ENOSPC and with EINTR, and in
 a fourth run the program is killed as it makes the call. It checks:
 
-- Unless it was killed, the program ends by itself, with a status and a line of docs/CODES.md. It reports a failed sync of
-  the folder.
+- Unless it was killed, the program ends by itself, with a status and a line of docs/CODES.md, behind `C2` with the line of
+  the cause. It reports a failed sync of the folder.
 - The vault opens, in the state before or after the command; after it, if the command printed its line.
 - The same command again prints its record (a purge or a sweep that was done says what it does then), and the state is that
   after it.
@@ -60,7 +60,8 @@ LIFE = {
 # What one that was done prints when it comes again, where that is something else.
 AGAIN = {"init": "I1 already initialised\n", "sweep": "", "purge": "dropped 0\n"}
 # What is printed where a call fails.
-FAILURES = re.compile(r"(C[1-5] [^\n]+|[^\n]*file failed[^\n]*|[^\n]*: [^\n]+)\n\Z")
+FAILURES = re.compile(
+    r"(C2 [^\n]+\nfile failed: d/vault\.vol: [^\n]+|C[1345] [^\n]+|[^\n]*file failed[^\n]*|[^\n]*: [^\n]+)\n\Z")
 # The arguments of a call on one of the files, and on the folder.
 ON_FILE = re.compile(r'.*(?:vault\.vol|custody\.db(?:-wal)?)[">]')
 ON_FOLDER = re.compile(r'(?:AT_FDCWD(?:<[^>]*>)?, )?"(?:[^"]*/)?d"|\d+<[^>]*/d>')

@@ -208,6 +208,11 @@ def response(status: int, answer: str | bytes = "", *fields: str) -> bytes:
     return "\r\n".join(head).encode() + body
 
 
+def volume_failed(cause: str) -> str:
+    """The pattern of the errors of a server whose volume failed: that line, and at the end the line of the cause."""
+    return rf"C2 volume failed\nfile failed: .*/vault\.vol: {re.escape(cause)}"
+
+
 def exchange(port: int, data: bytes, *, piece: int = 1 << 30, pause: float = 0, wait: float = 0, end: str = "half",
              read: int = 0, narrow: bool = False) -> bytes:
     """Sends the data to a port of 127.0.0.1, and gives what comes back.

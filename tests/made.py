@@ -275,8 +275,8 @@ COLOURS = {"Base": "#e8e8e8", "Format": CREAM, "Verification": CREAM, "Records":
            "Rules": GREEN, "Custody": "#b8e6cb", "Words": "#dbe9fb", "HTTP": PURPLE, "Laws": PURPLE, "Program": "#ffffff"}
 # The crates in the order in which a command and a request come to them, and the colour of their numbers.
 WAYS = {
-    "a command": ("#1f5fbf", "escrow agent_cli custody custody_rules vault_volume custody_store answer_lines".split()),
-    "a request": ("#8e44ad", "escrow http_api http_request custody answer_lines".split())}
+    "a command": ("#1f5fbf", "escrow agent_program agent_cli custody custody_rules vault_volume custody_store answer_lines".split()),
+    "a request": ("#8e44ad", "escrow agent_program http_api http_request custody answer_lines".split())}
 # The crates by name, each with its group and the crates that it names.
 Crates = dict[str, tuple[str, list[str]]]
 Point = tuple[int, int]

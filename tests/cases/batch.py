@@ -353,6 +353,7 @@ def a_volume_that_fails_ends_a_batch(room: Room) -> None:
         $ trap '' XFSZ; ulimit -f 400; escrow batch d < sent -> registered a {DAY}
         !3 Q21 hold unknown
         ! C2 volume failed
+        ! file failed: d/vault.vol: File too large (os error 27)
         $ escrow batch d < sent -> registered a {DAY}
         received {PART} 1048576 {TEN}
         registered b {DAY}

@@ -27,11 +27,12 @@ SECOND, THIRD, HELD = part_name(part=2), part_name(part=3), f"part {PART} 5 held
 FULL = f"""$ vault small/d 100; echo -n hello > {PART}; truncate -s 390000 {SECOND}; echo -n world > {THIRD}
 $ escrow put small/d {PART} --now {TEN} -> received {PART} 5 {TEN}
 $ escrow put small/d {SECOND} --now {TEN} -> !3 C2 volume failed
+! file failed: small/d/vault.vol: No space left on device (os error 28)
 $ escrow state small/d -> {state(98, HELD, blocks=100)}
 $ mount -o remount,size=1200k small
 $ escrow put small/d {SECOND} --now {TEN} -> received {SECOND} 390000 {TEN}
 $ cat /dev/zero > small/filler 2> /dev/null; escrow put small/d {THIRD} --now {TEN} > answer 2>&1; echo $? >> answer
-$ tr '\\n' ' ' < answer | grep -cxE 'received {THIRD} 5 {TEN} 0 |(C2 volume failed|C3 store failed|file failed: .*) 3 ' -> 1
+$ tr '\\n' ' ' < answer | grep -cxE 'received {THIRD} 5 {TEN} 0 |((C2 volume failed )?file failed: .*|C3 store failed) 3 ' -> 1
 $ rm small/filler
 $ escrow state small/d | sed -n 1,3p -> registry example {DAY}
 {HELD}

@@ -9,7 +9,7 @@ import threading
 import time
 from collections.abc import Iterator
 
-from lib import PART, TEN, TOP, Room, case, each, free_port, part_name, request, response
+from lib import PART, TEN, TOP, Room, case, each, free_port, part_name, request, response, volume_failed
 
 CHECK = TOP / "deploy/check-health"
 WORDS = ("OK", "WARNING", "CRITICAL", "UNKNOWN")
@@ -88,7 +88,8 @@ def a_day_is_due_by_the_clock(room: Room) -> None:
 @case("curl prlimit")
 def a_closed_service_is_critical(room: Room) -> None:
     room.vault("d")
-    with room.serve("d", 2, errors="C2 volume failed", under=("env", "--ignore-signal=XFSZ")) as server:
+    errors = volume_failed("File too large (os error 27)")
+    with room.serve("d", 2, errors=errors, under=("env", "--ignore-signal=XFSZ")) as server:
         room.plays(f"$ prlimit --pid {server.process.pid} --fsize=4096")
         room.equal(response(503, "C2 volume failed"), server.ask(request(f"PUT /deposits/{PART}", "hello")), "a part")
         says(room, server.port, 2, "the service answers 503 C4 closed")

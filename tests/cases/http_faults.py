@@ -2,7 +2,7 @@
 from pathlib import Path
 
 from http_routes import BEGUN, GROUND, HELLO, LARGE, LONGER, UNCHANGED, routes
-from lib import DAY, PART, TEN, Room, case, each, response, state, statement
+from lib import DAY, PART, TEN, Room, case, each, response, state, statement, volume_failed
 
 PUT, REGISTRY, OTHER = f"PUT /deposits/{PART}", "PUT /registries/example", "GET /notices/other"
 FIELDS = [word for at in range(33) for word in ("-H", f"X-{at}: a")]
@@ -121,5 +121,5 @@ def a_volume_that_cannot_be_written_closes_the_vault(room: Room) -> None:
         (PUT, "hello", 503, "C4 closed"),
         *((f"GET /{path}", None, 503, "C4 closed") for path in (
             "notices/example", f"reasons/example/{DAY}/0", "state", "due", "digests/example"))),
-        f"$ escrow state d -> {state(299, blocks=300)}", errors="C2 volume failed",
+        f"$ escrow state d -> {state(299, blocks=300)}", errors=volume_failed("File too large (os error 27)"),
         under=("env", "--ignore-signal=XFSZ", "prlimit", "--fsize=700000"))

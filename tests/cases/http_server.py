@@ -3,7 +3,7 @@ import os
 import signal
 import time
 
-from lib import DAY, PART, TEN, Room, Server, case, each, free_port, part_name, request, response, state
+from lib import DAY, PART, TEN, Room, Server, case, each, free_port, part_name, request, response, state, volume_failed
 
 UNKNOWN = request("GET /notices/other")
 
@@ -73,11 +73,13 @@ def a_server_that_cannot_print_its_line_ends(room: Room) -> None:
 
 REPORT, CLOSED, DONE = request("GET /notices/example"), response(503, "C4 closed"), response(200, "")
 FETCH, REGISTER = request(f"GET /releases/R-1/{PART}"), request("PUT /registries/other", f'{{"first":"{DAY}"}}')
-# What is done to a server that then fails at a request, that request, the failure, and the response of a new server to the
-# request when this is undone.
+# What is done to a server that then fails at a request, that request, the failure, its errors in the end, and the response of
+# a new server to the request when this is undone.
 FAILURES = (
-    ("volume", "truncate -s 4096 d/vault.vol", FETCH, "C2 volume failed", response(200, b"hello")),
-    ("store", "prlimit --pid {} --fsize=4096", REGISTER, "C3 store failed", response(201, f"registered other {DAY}")))
+    ("volume", "truncate -s 4096 d/vault.vol", FETCH, "C2 volume failed", volume_failed("failed to fill whole buffer"),
+     response(200, b"hello")),
+    ("store", "prlimit --pid {} --fsize=4096", REGISTER, "C3 store failed", "C3 store failed",
+     response(201, f"registered other {DAY}")))
 # A file that may grow no further is an error to the server, and not a signal.
 UNDER = ("env", "--ignore-signal=XFSZ")
 
@@ -110,9 +112,9 @@ def answers_again(room: Room, sent: bytes, wanted: bytes) -> None:
 
 
 @each_failure("a server writes once that its FILE failed")
-def told_once(room: Room, how: str, sent: bytes, failure: str, again: bytes) -> None:
+def told_once(room: Room, how: str, sent: bytes, failure: str, errors: str, again: bytes) -> None:
     released(room)
-    with room.serve("d", 5, errors=failure, under=UNDER) as server:
+    with room.serve("d", 5, errors=errors, under=UNDER) as server:
         spoil(room, server, how)
         room.equal(response(503, failure), server.ask(sent), "the request that fails")
         for other in (sent, REPORT):
@@ -124,19 +126,19 @@ def told_once(room: Room, how: str, sent: bytes, failure: str, again: bytes) -> 
 
 
 @each_failure("a server until closed ends when its FILE fails")
-def ends(room: Room, how: str, sent: bytes, failure: str, again: bytes) -> None:
+def ends(room: Room, how: str, sent: bytes, failure: str, errors: str, again: bytes) -> None:
     released(room)
-    with room.serve("d", 9, status=3, errors=failure, under=UNDER, until_closed=True) as server:
+    with room.serve("d", 9, status=3, errors=errors, under=UNDER, until_closed=True) as server:
         spoil(room, server, how)
         room.equal(response(503, failure), server.ask(sent), "the request that fails")
     answers_again(room, sent, again)
 
 
 @each_failure("a client that goes away keeps no failure of the FILE back")
-def told_without_client(room: Room, how: str, sent: bytes, failure: str, again: bytes) -> None:
+def told_without_client(room: Room, how: str, sent: bytes, failure: str, errors: str, again: bytes) -> None:
     """The response may be lost without an error."""
     released(room)
-    with room.serve("d", 9, status=3, errors=f"(write failed\n)?{failure}", under=UNDER, until_closed=True) as server:
+    with room.serve("d", 9, status=3, errors=f"(write failed\n)?{errors}", under=UNDER, until_closed=True) as server:
         spoil(room, server, how)
         os.kill(server.process.pid, signal.SIGSTOP)
         server.ask(sent, end="reset")
@@ -149,8 +151,9 @@ def a_failure_that_is_not_answered_is_written(room: Room) -> None:
     """The volume fails at a part that its client then cuts, so that the response is another."""
     room.vault("d", 300)
     sent, under = request(f"PUT /deposits/{PART}", b"a" * 1_048_576)[:-1], (*UNDER, "prlimit", "--fsize=700000")
+    errors = volume_failed("File too large (os error 27)")
     for until_closed, status, later in ((False, 0, CLOSED), (True, 3, b"")):
-        how = {"errors": "C2 volume failed", "status": status, "under": under, "until_closed": until_closed}
+        how = {"errors": errors, "status": status, "under": under, "until_closed": until_closed}
         with room.serve("d", 2, **how) as server:
             room.equal(response(400, "A9 body short"), server.ask(sent), "the part that is cut")
             room.equal(later, server.ask(REPORT), "a later request")

@@ -56,6 +56,7 @@ def a_volume_without_its_room_refuses_a_part_on_a_full_disk_and_loses_nothing(ro
             $ vault small/d 300; truncate -s 1M {PART}
             $ {FILL}
             $ escrow put small/d {PART} --now {TEN} -> !3 C2 volume failed
+            ! file failed: small/d/vault.vol: No space left on device (os error 28)
             $ escrow state small/d -> {state(299, blocks=300)}
             $ rm small/filler
             $ escrow put small/d {PART} --now {TEN} -> {LARGE}

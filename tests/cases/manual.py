@@ -4,7 +4,8 @@ import signal
 import socket
 
 from lib import (
-    DAY, PART, TABLES, TEN, TOP, Room, answer_of, case, each, free_port, lines_of, part_name, request, response, state)
+    DAY, PART, TABLES, TEN, TOP, Room, answer_of, case, each, free_port, lines_of, part_name, request, response, state,
+    volume_failed)
 
 CODES, FORMATS, HTTP = ((TOP / "docs" / it).read_text() for it in ("CODES.md", "FORMATS.md", "HTTP.md"))
 # The sections of the page of each program.
@@ -148,8 +149,8 @@ def a_server_prints_the_others(room: Room) -> None:
     room.vault("d")
     room.put("d", PART, "hello", TEN)
     room.plays(f"$ escrow release d R-1 example operator --now {TEN} -> released R-1 example operator {TEN} 1\n{PART}")
-    fetch, errors = request(f"GET /releases/R-1/{PART}"), f"{NAMED['escrow']['read failed'][1]}\nC2 volume failed"
-    with room.serve("d", 4, errors=errors) as server:
+    fetch, cause = request(f"GET /releases/R-1/{PART}"), volume_failed("failed to fill whole buffer")
+    with room.serve("d", 4, errors=f"{NAMED['escrow']['read failed'][1]}\n{cause}") as server:
         room.equal(b"", server.ask(b"GET", end="reset"), "the response to a client that leaves")
         fault = server.ask(request("GET /x")).decode().splitlines()[-1]
         room.true(re.fullmatch(NAMED["escrow"]["An TEXT"][1], fault), fault)

@@ -1,0 +1,10 @@
+mod BatchCallLemmas
+mod BatchLemmas
+mod ConnectionLemmas
+mod CopyLemmas
+mod ErrorLemmas
+mod ExampleBatch
+mod FolderLemmas
+mod HostLemmas
+mod MemHostLemmas
+mod PartLemmas

@@ -1,0 +1,12 @@
+pub mod Batch
+pub mod BatchCalls
+pub mod Calls
+pub mod Copies
+pub mod Errors
+pub mod ExampleBatch
+pub mod Folder
+pub mod Host
+pub mod MemHost
+pub mod Parts
+pub mod SettledFiles
+pub mod VaultCalls

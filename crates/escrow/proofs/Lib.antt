@@ -1,8 +1,0 @@
-mod BatchCallLemmas
-mod BatchLemmas
-mod CopyLemmas
-mod ErrorLemmas
-mod ExampleBatch
-mod FolderLemmas
-mod PartLemmas
-mod SocketLemmas

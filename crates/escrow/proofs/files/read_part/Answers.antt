@@ -1,7 +1,0 @@
-use Rattle.escrow.proofs.PartLemmas.{part_read}
-use Rattle.escrow.proofs.files.read_part.Goals as goal
-
-pub returns-in-Ok-clause-read : goal.returns-in-Ok-clause-read
-returns-in-Ok-clause-read g c =
-    part_read g.R.Read.remaining c.args.part c.in-Some.part c.take.result.inner c.take.result.limit c.new-bytes.result.items c.read_to_end.new.buf.items
-    c.in-Some.is c.take.ensures.inner c.take.ensures.limit c.new-bytes.ensures.items c.in-Ok.ensures.bytes

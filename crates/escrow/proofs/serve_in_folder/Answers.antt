@@ -1,4 +1,0 @@
-use Rattle.escrow.proofs.serve_in_folder.Goals as goal
-
-pub returns-clause-done : goal.returns-clause-done
-returns-clause-done g c = (c.in_ok-found.found, record { found = c.in_ok-found.ensures.found; ends = c.serve.ensures })
