@@ -1,5 +1,6 @@
 mod BatchCallLemmas
 mod BatchLemmas
+mod CallLemmas
 mod ConnectionLemmas
 mod CopyLemmas
 mod ErrorLemmas

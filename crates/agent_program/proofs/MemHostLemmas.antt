@@ -1,5 +1,5 @@
 -- What a machine in memory holds, and the words that it was started with.
-use Rattle.std.proofs.Common.{◌≡◌, ◌≢◌, ◌∙◌, ◌+◌, ◌||◌, ◌∷◌, [], ℕ, List, Option, Bool, true, false, IsSome, map, ap, arith, codes, inl, inr, length, length-append, option_map, refl, string_bytes, subst, sym}
+use Rattle.std.proofs.Common.{◌≡◌, ◌≢◌, ◌∙◌, ◌+◌, ◌||◌, ◌∷◌, [], ℕ, List, Option, None, Bool, true, false, IsSome, map, ap, arith, codes, inl, inr, length, length-append, option_map, refl, string_bytes, subst, sym}
 use Rattle.std.specs.Prelude.{bytes_eq}
 use Rattle.std.specs.List.{AllZip}
 use Rattle.std.proofs.lemmas.Slice.Eq.{bytes_eq-Decides}
@@ -62,3 +62,12 @@ module _ (h : MemHost) (path : List ℕ) (is : string_bytes h.database_path ≡ 
       by : bytes_eq (string_bytes h.database_path) other ≡ false → bytes_eq (string_bytes h.log_path) other ≡ false
           → held_of database h.other.bytes.now (bytes_eq (string_bytes h.database_path) other) (bytes_eq (string_bytes h.log_path) other) (bytes_eq h.other.path.now other) (held_at h.volumes other) ≡ held_in h other
       by first second = rw (first, second) (of_others database h.database h.other.bytes.now (bytes_eq h.other.path.now other) (held_at h.volumes other))
+
+-- where there is no database and no volume, only the other file is held
+pub none_held : (other path bytes : List ℕ) (first second : Bool) (rest : Option (List ℕ)) → path ≢ other → rest ≡ None → held_of None bytes first second (bytes_eq other path) rest ≡ None
+none_held other path bytes first second rest away none = rw (differ other path (λ same_path. away (sym same_path))) (by first second)
+  where
+    by : (a b : Bool) → held_of None bytes a b false rest ≡ None
+    by true b = refl
+    by false true = refl
+    by false false = none

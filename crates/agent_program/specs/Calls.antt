@@ -10,9 +10,11 @@ use Rattle.agent_cli.specs.Order.{AnswersReading, ReadsWords}
 use Rattle.agent_cli.specs.declared.order.Order.{Order}
 use Rattle.agent_cli.specs.declared.order.WordFault.{WordFault}
 use Rattle.answer_lines.specs.Printing.{IsUnused, Writer, WritesBeginning, as_line}
-use Rattle.agent_program.specs.Errors.{IsErrorPrinted}
+use Rattle.agent_program.specs.Errors.{IsErrorPrinted, IsProgramFailure}
 use Rattle.agent_program.specs.Folder.{HasEnded, end_status, end_volume}
 use Rattle.agent_program.specs.declared.errors.ProgramError.{ProgramError}
+use Rattle.agent_program.specs.declared.errors.ProgramError.TheVariants as error
+use Rattle.custody_machine.specs.declared.answers.Failure.TheVariants.{NoMemory}
 use Rattle.agent_program.specs.declared.folder.FolderCallEnd.{FolderCallEnd}
 
 -- the words of a call ask for an order
@@ -22,6 +24,10 @@ AskFor words order = AnswersReading (ReadsWords words) (Ok order)
 -- they are no order, and this is why; or there is no memory to read them
 abbrev pub AreFaulty : List Text → WordFault → Type 0
 AreFaulty words fault = AnswersReading (ReadsWords words) (Err fault)
+
+-- What may stop a call before an order is done: its words are no text, or there is no memory for them; or the vault or the clock fails an order that they ask for.
+abbrev pub MayStop : (given : Option (List Text)) → ProgramError → Type 0
+MayStop given why = ((why ≡ error.Words) ⊎ (why ≡ error.Failure NoMemory)) ⊎ (IsProgramFailure why × ((words : List Text) × (order : Order) × IfSome given (λ all. words ≡ all) × AskFor words order))
 
 -- Over a host: whether it reveals its files, what it holds, and the moment that its clock shows. `lines` is what is known of the bytes of standard input.
 module _ {F D : Type 0} {f : block_file.Ghosts F} (g : volume.Ghosts (FileVolume F f)) (d : disk.Ghosts D) (reveals : Type 0) (held : List ℕ → Option (List ℕ)) (shown : Option ℕ) (lines : Option (List ℕ)) where
@@ -50,4 +56,4 @@ module _ {F D : Type 0} {f : block_file.Ghosts F} (g : volume.Ghosts (FileVolume
 
   -- or an error stopped it, whose line was printed
   abbrev pub EndsRun : (given : Option (List Text)) → ℕ → (output errors : Writer) → Type 0
-  EndsRun given status output errors = EndsStart given status output errors ⊎ ((error : ProgramError) × IsErrorPrinted error status errors × IsUnused output)
+  EndsRun given status output errors = EndsStart given status output errors ⊎ ((why : ProgramError) × MayStop given why × IsErrorPrinted why status errors × IsUnused output)

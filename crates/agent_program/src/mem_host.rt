@@ -1,5 +1,5 @@
 //! A machine in memory, for tests and for theorems: a folder with its two files, and one file more.
-ghost use Rattle.std.specs.Prelude.{◌≡◌, ◌++◌, ℕ, Some, true, IfOk, IsTrue, codes, is_some, map, option_map, string_bytes};
+ghost use Rattle.std.specs.Prelude.{◌≡◌, ◌≢◌, ◌++◌, ℕ, List, None, Some, true, IfOk, IsTrue, codes, is_some, map, option_map, string_bytes};
 ghost use Rattle.std.specs.IoError.{error_kind};
 ghost use Rattle.std.proofs.Common.{inr};
 ghost use Rattle.agent_program.specs.SettledFiles.{IsFoundSettled, IsSettledFrom};
@@ -74,7 +74,11 @@ impl<'r> MemHost<'r> {
         now: Sec,
         calls: usize,
         syncs: usize,
-    ) -> Result<MemHost<'r>, AllocError> {
+    ) -> Result<MemHost<'r>, AllocError>
+        ensures words { IfOk result (λ h. ⟦<MemHost<'r> as Host>⟧.given_words h ≡ Some (map string_bytes words.items)) }
+        ensures moment { IfOk result (λ h. ⟦<MemHost<'r> as Host>⟧.shown h ≡ Some now) }
+        ensures none { IfOk result (λ h. (path : List ℕ) → path ≢ other.entry.path.now → ⟦<MemHost<'r> as BlockFiles>⟧.holds h path ≡ None) }
+    {
         let volume_path = format!(in alloc; "{folder}/vault.vol")?;
         let database_path = format!(in alloc; "{folder}/custody.db")?;
         let log_path = format!(in alloc; "{database_path}-wal")?;

@@ -3,7 +3,7 @@ ghost use Rattle.std.specs.Prelude.{◌≡◌, ◌⊎◌, IfErr, IfOk, OnErr, co
 ghost use Rattle.answer_lines.specs.Printing.{IsUnused, WritesBeginning, as_line};
 ghost use Rattle.agent_cli.specs.Faults.{IsStatusOf};
 ghost use Rattle.agent_cli.specs.declared.order.Order.{Order};
-ghost use Rattle.agent_program.specs.Calls.{AskFor, EndsCall, EndsStart, EndsRun, IsObeyed};
+ghost use Rattle.agent_program.specs.Calls.{AskFor, EndsCall, EndsStart, EndsRun, IsObeyed, MayStop};
 ghost use Rattle.agent_program.specs.Errors.{IsProgramFailure};
 ghost use Rattle.agent_program.specs.Folder.{HasActed, HasBatchedInFolder, HasBegunInFolder, HasEnded, HasServedInFolder};
 
@@ -46,6 +46,7 @@ pub fn run<H: Host, L: Read + Drop, W: Write + Drop, E: Write>(
 }
 
 /// Reads the words that the program was started with, and does what they ask for.
+#[tactic(auto, using(crate::proofs::CallLemmas::stops))]
 fn call_by_words<H: Host, L: Read + Drop, W: Write + Drop, E: Write>(
     host: &mut H,
     lines: L,
@@ -53,6 +54,7 @@ fn call_by_words<H: Host, L: Read + Drop, W: Write + Drop, E: Write>(
     err: &mut E,
 ) -> Result<u8, ProgramError>
     ensures done { IfOk result (λ status. EndsStart ⟦<FileVolume<H::File> as Volume>⟧ H.DatabaseFile.Disk H.File.tells (H.BlockFiles.holds host.old) (H.shown host.old) (L.remaining lines) (H.given_words host.old) status (record { before = ⟦<Output<W> as Write>⟧.contents out.old; after = ⟦<Output<W> as Write>⟧.contents out.new }) (record { before = E.contents err.old; after = E.contents err.new })) }
+    ensures error { IfErr result (MayStop (H.given_words host.old)) }
     ensures silent { OnErr result (IsUnused (record { before = ⟦<Output<W> as Write>⟧.contents out.old; after = ⟦<Output<W> as Write>⟧.contents out.new }) × IsUnused (record { before = E.contents err.old; after = E.contents err.new })) }
 {
     let words = match host.words() {

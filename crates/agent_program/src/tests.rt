@@ -42,7 +42,7 @@ fn calls(
 }
 
 #[test]
-fn an_init_makes_both_files(rt: HostRuntime) -> Result<(), Fail> {
+fn an_init_prints_that_the_vault_stands(rt: HostRuntime) -> Result<(), Fail> {
     let words = [
         "escrow",
         "init",
