@@ -1,5 +1,5 @@
 -- What is said of a call over the files of a folder, said of an order that is done there.
-use Rattle.std.proofs.Common.{◌≡◌, ℕ, Bool, List, Option, Result, IfOk, refl}
+use Rattle.std.proofs.Common.{◌≡◌, ◌∙◌, ℕ, Bool, List, Option, Result, IfOk, refl}
 use Rattle.std.proofs.lemmas.Result.{IfOk-weaker}
 use Rattle.vault_volume.specs.declared.volume.Volume as volume
 use Rattle.vault_volume.specs.declared.block_file.BlockFile as block_file
@@ -12,7 +12,7 @@ use Rattle.agent_cli.specs.declared.order.Deed.{Deed}
 use Rattle.agent_cli.specs.declared.order.Deed.TheVariants as deed
 use Rattle.agent_cli.specs.declared.order.Order.{Order}
 use Rattle.agent_program.specs.Parts.{IsOrderRead}
-use Rattle.agent_program.specs.Folder.{ActsInFolder, BatchesFolder, HasActed, HasBatchedInFolder, HasBegunInFolder, HasEnded, HasServedInFolder, InitsFolder, IsHeldOf, IsMadeOf, IsOpenOf, IsOrderDone, IsOverFolder, IsReadOf, ServesFolder}
+use Rattle.agent_program.specs.Folder.{ActsInFolder, BatchesFolder, HasActed, HasBatchedInFolder, HasBegunInFolder, HasEnded, HasServedInFolder, InitsFolder, IsCopySpared, IsFolderLeft, IsHeldOf, IsMadeOf, IsOpenOf, IsOrderDone, IsOverFolder, IsReadOf, ServesFolder}
 use Rattle.agent_program.specs.declared.folder.FolderCallEnd.{FolderCallEnd}
 use Rattle.agent_program.specs.declared.folder.FolderCallEnd.TheVariants as end
 use Rattle.agent_program.specs.declared.folder.OpenFolder.{OpenFolder}
@@ -104,7 +104,7 @@ module _ {F D : Type 0} {f : block_file.Ghosts F} (g : volume.Ghosts (FileVolume
 
   pub IfOk-batched : {E : Type 0} (r : Result (FolderCallEnd F D f d) E) → order.deed ≡ deed.Batch → IfOk r (HasBatchedInFolder g d reveals held shown output errors order lines) → IfOk r (HasEnded g d reveals held shown output errors lines order)
   IfOk-batched r is does =
-      IfOk-done (IsHeldOf g d reveals held order) (λ S database volume db status has_vault later then. BatchesFolder g database volume db status has_vault later then output errors reveals held order.folder.now lines) r does
+      IfOk-done (IsHeldOf g d reveals held order) (λ S database volume db status has_vault later then. BatchesFolder g database volume db status has_vault later then output errors reveals held shown order.folder.now lines) r does
       (λ files found. rw is found) (λ S database volume db status has_vault later then works. rw is works)
 
   pub IfOk-served : {E : Type 0} (port requests : ℕ) (until_closed : Bool) (r : Result (FolderCallEnd F D f d) E) → order.deed ≡ deed.Serve port requests until_closed → IfOk r (HasServedInFolder g d reveals held shown output errors order port requests until_closed)
@@ -112,3 +112,9 @@ module _ {F D : Type 0} {f : block_file.Ghosts F} (g : volume.Ghosts (FileVolume
   IfOk-served port requests until_closed r is serves =
       IfOk-done (IsHeldOf g d reveals held order) (λ S database volume db status has_vault later then. ServesFolder g database volume db status has_vault later then output errors port requests until_closed order.now) r serves
       (λ files found. rw is found) (λ S database volume db status has_vault later then works. rw is works)
+
+-- What a folder holds once its files are closed: a database that was only copied is as it was before they were opened.
+pub left_since : {F D : Type 0} {f : block_file.Ghosts F} {d : disk.Ghosts D} (g : volume.Ghosts (FileVolume F f)) (held then later : List ℕ → Option (List ℕ)) (volume database : List ℕ) (ended : FolderCallEnd F D f d)
+    → IsCopySpared held then database ended → IsFolderLeft g then later volume database ended → IsFolderLeft g held later volume database ended
+left_since g held then later volume database (end.Open ended) spared left = left
+left_since g held then later volume database (end.ReadOnly ended) spared left = (left.0, (left.1.0 ∙ spared.0, left.1.1 ∙ spared.1))

@@ -10,7 +10,7 @@ use Rattle.sqlite_store.specs.declared.store.FileStore.{FileStore}
 use Rattle.sqlite.specs.Held.{Held}
 use Rattle.agent_program.specs.Copies.{IsCopyFound}
 use Rattle.agent_program.specs.Folder.{IsVolumeMade}
-use Rattle.agent_program.specs.Host.{IsDatabaseHeld, IsOtherPath, bytes_or_none, database_path, log_path, volume_path}
+use Rattle.agent_program.specs.Host.{IsDatabaseHeld, IsDatabaseLeft, IsOtherPath, bytes_or_none, database_path, log_path, volume_path}
 
 longer : (a b : List ℕ) → length a ≢ length b → a ≢ b
 longer a b differ same = differ (ap length same)
@@ -42,3 +42,7 @@ module _ (old new : List ℕ → Option (List ℕ)) where
   pub same_volume : {F : Type 0} {f : block_file.Ghosts F} (g : volume.Ghosts (FileVolume F f)) (folder : List ℕ) (blocks : ℕ) (volume : FileVolume F f) → new (volume_path folder) ≡ old (volume_path folder)
       → IsVolumeMade new g folder blocks volume → IsVolumeMade old g folder blocks volume
   same_volume g folder blocks volume same made = rw (sym same) made
+
+  -- what is held the same at both paths is what a database left there
+  pub same_left : {D : Type 0} (d : disk.Ghosts D) (path : List ℕ) (db : Held (FileStore D d)) → new path ≡ old path → new (log_path path) ≡ old (log_path path) → IsDatabaseLeft old d path db → IsDatabaseLeft new d path db
+  same_left d path db same same_log left = record { files = left.files; left = left.left; db_held = same ∙ left.db_held; log_held = same_log ∙ left.log_held }

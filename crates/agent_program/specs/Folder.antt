@@ -1,5 +1,5 @@
 -- What an order does over the two files of a folder.
-use Rattle.std.specs.Prelude.{◌≡◌, ◌*◌, ℕ, Bool, List, [], Option, Result, true, false, replicate, IsSome, MatchBool}
+use Rattle.std.specs.Prelude.{◌≡◌, ◌≢◌, ◌*◌, ℕ, Bool, List, [], Option, Some, Result, true, false, replicate, IsSome, MatchBool}
 use Rattle.clap.specs.Words.{Text}
 use Rattle.vault_volume.specs.declared.volume.Volume as volume
 use Rattle.vault_volume.specs.declared.block_file.BlockFile as block_file
@@ -28,7 +28,7 @@ use Rattle.agent_program.specs.declared.folder.FolderCallEnd.{FolderCallEnd}
 use Rattle.agent_program.specs.declared.folder.FolderCallEnd.TheVariants as end
 use Rattle.agent_program.specs.declared.folder.OpenFolder.{OpenFolder}
 use Rattle.agent_program.specs.declared.folder.ReadOnlyFolder.{ReadOnlyFolder}
-use Rattle.agent_program.specs.Host.{IsDatabaseHeld, IsOrderMoment, IsOutside, IsVolumeHeld, database_path}
+use Rattle.agent_program.specs.Host.{AreSameOutside, IsDatabaseHeld, IsDatabaseLeft, IsOrderMoment, IsVolumeHeld, database_path, log_path, volume_path}
 use Rattle.agent_program.specs.Copies.{IsCopyFound}
 use Rattle.agent_program.specs.Parts.{IsOrderRead}
 use Rattle.agent_program.specs.VaultCalls.{HasDoneBatch, HasServedConnections, HasPrintedReady, IsCarriedOut, HasPrintedInitError, HasPrintedOpenFailure}
@@ -45,20 +45,20 @@ IsAsked old new = (answer : Result Bool Failure) × ChangesNothing old new answe
 module _ (held : List ℕ → Option (List ℕ)) {F : Type 0} {f : block_file.Ghosts F} (g : volume.Ghosts (FileVolume F f)) where
   -- both were there
   pub record IsFolderHeld {D : Type 0} (d : disk.Ghosts D) (folder : Text) (volume : FileVolume F f) (db : Held (FileStore D d)) : Type 0 where
-    pub volume_is : IsVolumeHeld held g folder volume
+    pub volume_is : IsVolumeHeld held g (volume_path folder) volume
     pub database_is : IsDatabaseHeld held d (database_path folder) db
     pub there : IsSome (held (database_path folder))
 
   -- they were opened only to be read
   pub record IsFolderRead (folder : Text) (volume : FileVolume F f) (db : Held (FileStore Memory memory)) : Type 0 where
-    pub volume_is : IsVolumeHeld held g folder volume
+    pub volume_is : IsVolumeHeld held g (volume_path folder) volume
     pub database_is : IsCopyFound held (database_path folder) db
 
   -- the volume was there, or was made anew of zero bytes
   abbrev pub IsVolumeMade : (folder : Text) → (blocks : ℕ) → FileVolume F f → Type 0
   IsVolumeMade folder blocks volume = MatchBool (is_new_file volume)
       ((g.image volume ≡ replicate (4096 * blocks) 0) × LeavesOneImage (g.image volume) (g.left_at volume (g.moment volume)))
-      (IsVolumeHeld held g folder volume)
+      (IsVolumeHeld held g (volume_path folder) volume)
 
   -- the database was there, or was made, and has only been asked since
   pub record IsFolderMade {D : Type 0} (d : disk.Ghosts D) (folder : Text) (blocks : ℕ) (volume : FileVolume F f) (db : Held (FileStore D d)) : Type 0 where
@@ -88,13 +88,12 @@ module _ {F S : Type 0} {f : block_file.Ghosts F} (g : volume.Ghosts (FileVolume
     pub ends : MatchBool has_vault (IsCarriedOut g database volume db order.deed bytes now status later then output errors) (HasPrintedOpenFailure g database volume db status later then output errors)
 
   -- the files were found, and the orders of these lines were done over them, or no agent was opened
-  pub record BatchesFolder (reveals : Type 0) (held : List ℕ → Option (List ℕ)) (folder : Text) (lines : Option (List ℕ)) : Type 0 where
+  pub record BatchesFolder (reveals : Type 0) (held : List ℕ → Option (List ℕ)) (shown : Option ℕ) (folder : Text) (lines : Option (List ℕ)) : Type 0 where
     pub found : is_new_file volume ≡ false
-    -- what the host holds and its clock shows then; outside the folder's vault it holds what it held
+    -- what the host holds then; outside the folder's vault that is what it held
     pub held_then : List ℕ → Option (List ℕ)
-    pub shown_then : Option ℕ
-    pub others : reveals → (path : List ℕ) → IsOutside folder path → held_then path ≡ held path
-    pub ends : MatchBool has_vault (HasDoneBatch g database volume db held_then shown_then folder lines status later then output errors) (HasPrintedOpenFailure g database volume db status later then output errors)
+    pub others : reveals → AreSameOutside held held_then folder
+    pub ends : MatchBool has_vault (HasDoneBatch g database volume db held_then shown folder lines status later then output errors) (HasPrintedOpenFailure g database volume db status later then output errors)
 
   -- the files were found, and so many connections at most were answered at this port, or no agent was opened
   pub record ServesFolder (port requests : ℕ) (until_closed : Bool) (given : Option ℕ) : Type 0 where
@@ -107,9 +106,13 @@ module _ {F S : Type 0} {f : block_file.Ghosts F} (g : volume.Ghosts (FileVolume
     where
       by : Deed → Type 0
       by (deed.Init blocks number) = InitsFolder blocks number
-      by deed.Batch = BatchesFolder reveals held order.folder.now lines
+      by deed.Batch = BatchesFolder reveals held shown order.folder.now lines
       by (deed.Serve port requests until_closed) = ServesFolder port requests until_closed order.now
       by other = (bytes : List ℕ) × IsOrderRead held other bytes × ActsInFolder shown order bytes
+
+-- Of what is held at the paths of a database and its log before an order and after it: a database that was only copied is as it was.
+abbrev pub IsCopiedAlone : (held later : List ℕ → Option (List ℕ)) → (database : Text) → Type 0
+IsCopiedAlone held later database = (later database ≡ held database) × (later (log_path database) ≡ held (log_path database))
 
 module _ {F D : Type 0} {f : block_file.Ghosts F} {d : disk.Ghosts D} where
   -- the status with which an order over a folder ended
@@ -121,6 +124,21 @@ module _ {F D : Type 0} {f : block_file.Ghosts F} {d : disk.Ghosts D} where
   abbrev pub end_volume : FolderCallEnd F D f d → FileVolume F f
   end_volume (end.Open ended) = ended.volume
   end_volume (end.ReadOnly ended) = ended.volume
+
+  -- once an order has ended, its files are open by their paths
+  abbrev pub AreOpen : (IsOpen IsDatabaseOpen : List ℕ → Type 0) → (volume database : Text) → FolderCallEnd F D f d → Type 0
+  AreOpen IsOpen IsDatabaseOpen volume database (end.Open ended) = IsOpen volume × IsDatabaseOpen database
+  AreOpen IsOpen IsDatabaseOpen volume database (end.ReadOnly ended) = IsOpen volume
+
+  -- until then a database that was only copied is as it was
+  abbrev pub IsCopySpared : (held later : List ℕ → Option (List ℕ)) → (database : Text) → FolderCallEnd F D f d → Type 0
+  IsCopySpared held later database (end.Open ended) = Unit {0}
+  IsCopySpared held later database (end.ReadOnly ended) = IsCopiedAlone held later database
+
+  -- once they are closed, both files hold what the order left
+  abbrev pub IsFolderLeft : (g : volume.Ghosts (FileVolume F f)) → (held later : List ℕ → Option (List ℕ)) → (volume database : Text) → FolderCallEnd F D f d → Type 0
+  IsFolderLeft g held later volume database (end.Open ended) = (later volume ≡ Some (g.image ended.volume)) × IsDatabaseLeft later d database ended.db
+  IsFolderLeft g held later volume database (end.ReadOnly ended) = (later volume ≡ Some (g.image ended.volume)) × IsCopiedAlone held later database
 
   -- What is said of a volume and a database, and of how a call over them ended, holds of the files of a folder: of those that were opened, or, for an order that only reads, of the volume that may not be written and a copy of the database.
   abbrev pub IsOverFolder : (OpenFolder F D f d → Type 0) → (ReadOnlyFolder F f → Type 0) → ((S : Type 0) → Ghosts S → FileVolume F f → Held S → ℕ → Bool → FileVolume F f → Held S → Type 0) → Order → FolderCallEnd F D f d → Type 0
@@ -163,7 +181,7 @@ module _ {F D : Type 0} {f : block_file.Ghosts F} (g : volume.Ghosts (FileVolume
   -- the orders of lines were done over a folder
   abbrev pub HasBatchedInFolder : Order → (lines : Option (List ℕ)) → FolderCallEnd F D f d → Type 0
   HasBatchedInFolder order lines = IsOverFolder (IsHeldOf g d reveals held order) (IsReadOf g reveals held order)
-      (λ S database volume db status has_vault later then. BatchesFolder g database volume db status has_vault later then output errors reveals held order.folder.now lines) order
+      (λ S database volume db status has_vault later then. BatchesFolder g database volume db status has_vault later then output errors reveals held shown order.folder.now lines) order
 
   -- connections were answered over a folder
   abbrev pub HasServedInFolder : Order → (port requests : ℕ) → (until_closed : Bool) → FolderCallEnd F D f d → Type 0
@@ -174,3 +192,8 @@ module _ {F D : Type 0} {f : block_file.Ghosts F} (g : volume.Ghosts (FileVolume
   abbrev pub HasEnded : (lines : Option (List ℕ)) → Order → FolderCallEnd F D f d → Type 0
   HasEnded lines order = IsOverFolder (IsOpenOf g d reveals held order) (IsReadOf g reveals held order)
       (λ S database volume db status has_vault later then. IsOrderDone g database volume db status has_vault later then output errors reveals held shown lines order) order
+
+-- an order that was not done leaves all other files as they are, and the volume too, unless it was to make that
+pub record IsSpared (held later : List ℕ → Option (List ℕ)) (order : Order) : Type 0 where
+  pub others : AreSameOutside held later order.folder.now
+  pub volume_is : ((blocks number : ℕ) → order.deed ≢ deed.Init blocks number) → later (volume_path order.folder.now) ≡ held (volume_path order.folder.now)

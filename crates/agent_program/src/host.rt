@@ -2,7 +2,7 @@
 ghost use Rattle.std.specs.Prelude.{◌≡◌, ℕ, List, Option, Some, IfErr, IfOk, IfSome, IsSome, OnOk, map, string_bytes};
 ghost use Rattle.std.specs.IoError.{error_kind};
 ghost use Rattle.http_api.specs.Clients.{IsOfSocket};
-ghost use Rattle.agent_program.specs.Host.{IsDatabaseHeld, IsOtherPath};
+ghost use Rattle.agent_program.specs.Host.{IsDatabaseHeld, IsOtherPath, log_path};
 
 use crate::folder::Database;
 use http_api::{Clients, ServiceError};
@@ -59,6 +59,9 @@ pub trait Host: BlockFiles {
     /// A file stands at a path, open or not.
     ghost is_there: { Self → List ℕ → Type 0 };
 
+    /// A database was opened by a path, and has not been closed.
+    ghost is_database_open: { Self → List ℕ → Type 0 };
+
     fn alloc(&self) -> Global;
 
     fn words(&self) -> io::Result<Vec<String>>
@@ -94,8 +97,20 @@ pub trait Host: BlockFiles {
         ensures found { Self.File.tells → IfOk result (IsDatabaseHeld (Self.BlockFiles.holds self.old) Self.DatabaseFile.Disk path.now) }
         // One that is there is one that it holds.
         ensures there { Self.File.tells → OnOk result (is_there self.old path.now → IsSome (Self.BlockFiles.holds self.old path.now)) }
+        ensures open { Self.File.tells → OnOk result (is_database_open self.new path.now) }
         // The files of other paths stay.
-        ensures others { Self.File.tells → (other : List ℕ) → IsOtherPath path.now other → Self.BlockFiles.holds self.new other ≡ Self.BlockFiles.holds self.old other };
+        ensures others { Self.File.tells → (other : List ℕ) → IsOtherPath path.now other → Self.BlockFiles.holds self.new other ≡ Self.BlockFiles.holds self.old other }
+        ensures others_open { Self.File.tells → (other : List ℕ) → IsOtherPath path.now other → Self.BlockFiles.is_open self.old other → Self.BlockFiles.is_open self.new other }
+        ensures moment { shown self.new ≡ shown self.old };
+
+    /// Closes the files of a database that was opened by a path, which keep their bytes.
+    fn close_database(&mut self, path: &str, db: Self::DatabaseFile, log: Self::DatabaseFile)
+        requires { Self.File.tells → is_database_open self.old path.now }
+        ensures db { Self.File.tells → Self.BlockFiles.holds self.new path.now ≡ Some (Self.DatabaseFile.Disk.seen db) }
+        ensures log { Self.File.tells → Self.BlockFiles.holds self.new (log_path path.now) ≡ Some (Self.DatabaseFile.Disk.seen log) }
+        // The files of other paths stay.
+        ensures others { Self.File.tells → (other : List ℕ) → IsOtherPath path.now other → Self.BlockFiles.holds self.new other ≡ Self.BlockFiles.holds self.old other }
+        ensures others_open { Self.File.tells → (other : List ℕ) → IsOtherPath path.now other → Self.BlockFiles.is_open self.old other → Self.BlockFiles.is_open self.new other };
 
     /// Listens at a port of the machine itself.
     fn listen(&self, port: u16) -> Result<Self::Clients, ServiceError>
@@ -105,4 +120,9 @@ pub trait Host: BlockFiles {
     fn terminal(&self) -> Option<Self::Terminal>;
 
     ghost held_is_there: { (h : Self) (path : List ℕ) → Self.File.tells → IsSome (Self.BlockFiles.holds h path) → is_there h path };
+
+    // The calls on the volumes' files change neither the databases that are open nor the clock.
+    ghost beside_open: { (old new : Self) (path : List ℕ) → Self.BlockFiles.same_beside old new → is_database_open old path → is_database_open new path };
+
+    ghost beside_shown: { (old new : Self) → Self.BlockFiles.same_beside old new → shown new ≡ shown old };
 }

@@ -1,7 +1,7 @@
 //! A machine in memory, for tests and for theorems: a folder with its two files, and one file more.
 ghost use Rattle.std.specs.Prelude.{◌≡◌, ◌≢◌, ◌++◌, ℕ, List, None, Some, true, IfOk, IsTrue, codes, is_some, map, option_map, string_bytes};
 ghost use Rattle.std.specs.IoError.{error_kind};
-ghost use Rattle.std.proofs.Common.{inr};
+ghost use Rattle.std.proofs.Common.{◌∙◌, ap, inr};
 ghost use Rattle.agent_program.specs.SettledFiles.{IsFoundSettled, IsSettledFrom};
 ghost use Rattle.sqlite_disk.specs.Memory.{memory_bytes, memory_is_usable};
 ghost use Rattle.agent_program.specs.Host.{bytes_or_none};
@@ -96,6 +96,15 @@ impl<'r> MemHost<'r> {
         })
     }
 
+    /// The program is started again, with these words.
+    pub fn start(&mut self, words: Vec<String>)
+        ensures words { ⟦<MemHost<'r> as Host>⟧.given_words self.new ≡ Some (map string_bytes words.items) }
+        ensures moment { ⟦<MemHost<'r> as Host>⟧.shown self.new ≡ ⟦<MemHost<'r> as Host>⟧.shown self.old }
+        ensures same { (path : List ℕ) → ⟦<MemHost<'r> as BlockFiles>⟧.holds self.new path ≡ ⟦<MemHost<'r> as BlockFiles>⟧.holds self.old path }
+    {
+        self.words = words;
+    }
+
     // Whether a path is that of the database.
     fn names_database(&self, path: &str) -> bool
         ensures { result ≡ true → string_bytes self.now.database_path ≡ path.now }
@@ -129,11 +138,17 @@ impl<'r> MemHost<'r> {
 }
 
 impl<'r> BlockFiles for MemHost<'r> {
-    ghost use Rattle.agent_program.specs.MemHost.{held_in};
+    ghost use Rattle.agent_program.specs.MemHost.{IsOpenIn, IsSameBeside, held_in};
 
     type File = MemFile;
 
     ghost holds = { held_in };
+
+    ghost is_open = { IsOpenIn };
+
+    ghost same_beside = { IsSameBeside };
+
+    ghost beside_through = { λ _ _ _ first second. record { path_is = second.path_is ∙ first.path_is; database_is = second.database_is ∙ first.database_is; clock_is = second.clock_is ∙ first.clock_is } };
 
     fn find(&mut self, path: &str, access: Access) -> Result<MemFile, FileError> {
         if self.is_beside(path) {
@@ -148,10 +163,14 @@ impl<'r> BlockFiles for MemHost<'r> {
         }
         self.volumes.make(path, blocks)
     }
+
+    fn close(&mut self, path: &str, file: MemFile) {
+        self.volumes.close(path, file);
+    }
 }
 
 impl<'r> Host for MemHost<'r> {
-    ghost use Rattle.agent_program.specs.MemHost.{IsThereIn};
+    ghost use Rattle.agent_program.specs.MemHost.{IsDatabaseOpenIn, IsThereIn};
 
     type Reader = &'r [u8];
 
@@ -169,7 +188,13 @@ impl<'r> Host for MemHost<'r> {
 
     ghost is_there = { IsThereIn };
 
+    ghost is_database_open = { IsDatabaseOpenIn };
+
     ghost held_is_there = { λ _ _ _ held. inr held };
+
+    ghost beside_open = { λ _ _ _ same is_open. (same.path_is ∙ is_open.0, same.database_is ∙ is_open.1) };
+
+    ghost beside_shown = { λ _ _ same. ap (λ clock. Some clock.now) same.clock_is };
 
     fn alloc(&self) -> Global {
         self.alloc
@@ -249,6 +274,10 @@ impl<'r> Host for MemHost<'r> {
                 Err(error)
             }
         }
+    }
+
+    fn close_database(&mut self, _path: &str, db: Memory, log: Memory) {
+        self.database = Some(Files { log, db });
     }
 
     fn listen(&self, port: u16) -> Result<MemClients<'r>, ServiceError> {

@@ -1,17 +1,18 @@
 //! What a call of the program does.
-ghost use Rattle.std.specs.Prelude.{◌≡◌, ◌⊎◌, IfErr, IfOk, OnErr, codes, map, string_bytes};
+ghost use Rattle.std.specs.Prelude.{◌≡◌, ◌≢◌, ◌⊎◌, ℕ, IfErr, IfOk, OnErr, codes, map, string_bytes};
 ghost use Rattle.answer_lines.specs.Printing.{IsUnused, WritesBeginning, as_line};
 ghost use Rattle.agent_cli.specs.Faults.{IsStatusOf};
 ghost use Rattle.agent_cli.specs.declared.order.Order.{Order};
-ghost use Rattle.agent_program.specs.Calls.{AskFor, EndsCall, EndsStart, EndsRun, IsObeyed, MayStop};
+ghost use Rattle.agent_program.specs.Calls.{EndsCall, EndsStart, EndsRun, IsNotDone, IsObeyed, MayStop};
 ghost use Rattle.agent_program.specs.Errors.{IsProgramFailure};
-ghost use Rattle.agent_program.specs.Folder.{HasActed, HasBatchedInFolder, HasBegunInFolder, HasEnded, HasServedInFolder};
+ghost use Rattle.agent_program.specs.Folder.{AreOpen, HasActed, HasBatchedInFolder, HasBegunInFolder, HasEnded, HasServedInFolder, IsCopySpared, IsSpared};
+ghost use Rattle.agent_program.specs.Host.{AreSameOutside, database_path as path_of_database, volume_path as path_of_volume};
 
 use crate::clock::moment_of;
 use crate::errors::{ProgramError, tell_error};
 use crate::folder::{
-    FolderCallEnd, close_database, create_folder, is_read_only, open_folder, open_folder_to_read,
-    volume_path,
+    FolderCallEnd, close_folder, create_folder, database_path, is_read_only, open_folder,
+    open_folder_to_read, volume_path,
 };
 use crate::host::Host;
 use crate::output::Output;
@@ -37,7 +38,7 @@ pub fn run<H: Host, L: Read + Drop, W: Write + Drop, E: Write>(
     out: &mut Output<W>,
     err: &mut E,
 ) -> u8
-    ensures { EndsRun ⟦<FileVolume<H::File> as Volume>⟧ H.DatabaseFile.Disk H.File.tells (H.BlockFiles.holds host.old) (H.shown host.old) (L.remaining lines) (H.given_words host.old) result (record { before = ⟦<Output<W> as Write>⟧.contents out.old; after = ⟦<Output<W> as Write>⟧.contents out.new }) (record { before = E.contents err.old; after = E.contents err.new }) }
+    ensures { EndsRun ⟦<FileVolume<H::File> as Volume>⟧ H.DatabaseFile.Disk H.File.tells (H.BlockFiles.holds host.old) (H.BlockFiles.holds host.new) (H.shown host.old) (L.remaining lines) (H.given_words host.old) result (record { before = ⟦<Output<W> as Write>⟧.contents out.old; after = ⟦<Output<W> as Write>⟧.contents out.new }) (record { before = E.contents err.old; after = E.contents err.new }) }
 {
     match call_by_words(host, lines, out, err) {
         Ok(status) => status,
@@ -53,8 +54,8 @@ fn call_by_words<H: Host, L: Read + Drop, W: Write + Drop, E: Write>(
     out: &mut Output<W>,
     err: &mut E,
 ) -> Result<u8, ProgramError>
-    ensures done { IfOk result (λ status. EndsStart ⟦<FileVolume<H::File> as Volume>⟧ H.DatabaseFile.Disk H.File.tells (H.BlockFiles.holds host.old) (H.shown host.old) (L.remaining lines) (H.given_words host.old) status (record { before = ⟦<Output<W> as Write>⟧.contents out.old; after = ⟦<Output<W> as Write>⟧.contents out.new }) (record { before = E.contents err.old; after = E.contents err.new })) }
-    ensures error { IfErr result (MayStop (H.given_words host.old)) }
+    ensures done { IfOk result (λ status. EndsStart ⟦<FileVolume<H::File> as Volume>⟧ H.DatabaseFile.Disk H.File.tells (H.BlockFiles.holds host.old) (H.BlockFiles.holds host.new) (H.shown host.old) (L.remaining lines) (H.given_words host.old) status (record { before = ⟦<Output<W> as Write>⟧.contents out.old; after = ⟦<Output<W> as Write>⟧.contents out.new }) (record { before = E.contents err.old; after = E.contents err.new })) }
+    ensures error { IfErr result (MayStop H.File.tells (H.BlockFiles.holds host.old) (H.BlockFiles.holds host.new) (H.given_words host.old)) }
     ensures silent { OnErr result (IsUnused (record { before = ⟦<Output<W> as Write>⟧.contents out.old; after = ⟦<Output<W> as Write>⟧.contents out.new }) × IsUnused (record { before = E.contents err.old; after = E.contents err.new })) }
 {
     let words = match host.words() {
@@ -68,6 +69,7 @@ fn call_by_words<H: Host, L: Read + Drop, W: Write + Drop, E: Write>(
 }
 
 /// Does what the words of a call ask for, and answers the status. The first of them is the program's name.
+#[tactic(auto, using(crate::proofs::CallLemmas::not_done))]
 fn call<H: Host, L: Read + Drop, W: Write + Drop, E: Write>(
     host: &mut H,
     words: &[String],
@@ -75,8 +77,8 @@ fn call<H: Host, L: Read + Drop, W: Write + Drop, E: Write>(
     out: &mut Output<W>,
     err: &mut E,
 ) -> Result<u8, ProgramError>
-    ensures done { IfOk result (λ status. EndsCall ⟦<FileVolume<H::File> as Volume>⟧ H.DatabaseFile.Disk H.File.tells (H.BlockFiles.holds host.old) (H.shown host.old) (L.remaining lines) (map string_bytes words.now) status (record { before = ⟦<Output<W> as Write>⟧.contents out.old; after = ⟦<Output<W> as Write>⟧.contents out.new }) (record { before = E.contents err.old; after = E.contents err.new })) }
-    ensures error { IfErr result (λ error. IsProgramFailure error × ((order : Order) × AskFor (map string_bytes words.now) order)) }
+    ensures done { IfOk result (λ status. EndsCall ⟦<FileVolume<H::File> as Volume>⟧ H.DatabaseFile.Disk H.File.tells (H.BlockFiles.holds host.old) (H.BlockFiles.holds host.new) (H.shown host.old) (L.remaining lines) (map string_bytes words.now) status (record { before = ⟦<Output<W> as Write>⟧.contents out.old; after = ⟦<Output<W> as Write>⟧.contents out.new }) (record { before = E.contents err.old; after = E.contents err.new })) }
+    ensures error { IfErr result (λ error. IsProgramFailure error × IsNotDone H.File.tells (H.BlockFiles.holds host.old) (H.BlockFiles.holds host.new) (map string_bytes words.now)) }
     ensures silent { OnErr result (IsUnused (record { before = ⟦<Output<W> as Write>⟧.contents out.old; after = ⟦<Output<W> as Write>⟧.contents out.new }) × IsUnused (record { before = E.contents err.old; after = E.contents err.new })) }
 {
     match order_of(host.alloc(), words) {
@@ -119,16 +121,19 @@ fn obey<H: Host, L: Read + Drop, W: Write + Drop, E: Write>(
     out: &mut Output<W>,
     err: &mut E,
 ) -> Result<u8, ProgramError>
-    ensures done { IfOk result (λ status. IsObeyed ⟦<FileVolume<H::File> as Volume>⟧ H.DatabaseFile.Disk H.File.tells (H.BlockFiles.holds host.old) (H.shown host.old) (L.remaining lines) order.entry.now status (record { before = ⟦<Output<W> as Write>⟧.contents out.old; after = ⟦<Output<W> as Write>⟧.contents out.new }) (record { before = E.contents err.old; after = E.contents err.new })) }
+    ensures done { IfOk result (λ status. IsObeyed ⟦<FileVolume<H::File> as Volume>⟧ H.DatabaseFile.Disk H.File.tells (H.BlockFiles.holds host.old) (H.BlockFiles.holds host.new) (H.shown host.old) (L.remaining lines) order.entry.now status (record { before = ⟦<Output<W> as Write>⟧.contents out.old; after = ⟦<Output<W> as Write>⟧.contents out.new }) (record { before = E.contents err.old; after = E.contents err.new })) }
     ensures error { IfErr result IsProgramFailure }
+    ensures spared { H.File.tells → OnErr result (IsSpared (H.BlockFiles.holds host.old) (H.BlockFiles.holds host.new) order.entry.now) }
     ensures silent { OnErr result (IsUnused (record { before = ⟦<Output<W> as Write>⟧.contents out.old; after = ⟦<Output<W> as Write>⟧.contents out.new }) × IsUnused (record { before = E.contents err.old; after = E.contents err.new })) }
 {
     let _streams = hold_streams(host)?;
+    let volume_path = volume_path(host.alloc(), order.folder)?;
+    let database_path = database_path(host.alloc(), order.folder)?;
     let ended = carry_out(host, order, lines, out, err)?;
     tell_failed_output(out, err);
+    tell_cause(host.alloc(), &volume_path, ended.volume(), err);
     let status = ended.status();
-    let volume = close_database(ended);
-    tell_cause(host.alloc(), order.folder, &volume, err);
+    close_folder(host, &volume_path, &database_path, ended);
     Ok(status)
 }
 
@@ -144,14 +149,14 @@ fn tell_failed_output<W: Write + Drop, E: Write>(out: &Output<W>, err: &mut E)
 /// Prints why the last call on the volume that failed did so, where one has.
 fn tell_cause<F: BlockFile, E: Write>(
     alloc: Global,
-    folder: &str,
+    path: &str,
     volume: &FileVolume<F>,
     err: &mut E,
 )
     ensures { ⟦<FileVolume<F> as Volume>⟧.failures volume.now ≡ 0 → E.contents err.new ≡ E.contents err.old }
 {
-    if let (Some(cause), Ok(path)) = (volume.cause(), volume_path(alloc, folder)) {
-        if let ProgramError::File(line) = ProgramError::of_file(alloc, &path, cause) {
+    if let Some(cause) = volume.cause() {
+        if let ProgramError::File(line) = ProgramError::of_file(alloc, path, cause) {
             let _ = write_whole(line.as_bytes(), err);
         }
     }
@@ -168,6 +173,10 @@ fn carry_out<H: Host, L: Read + Drop, W: Write, E: Write>(
 ) -> Result<FolderCallEnd<H::File, H::DatabaseFile>, ProgramError>
     ensures done { IfOk result (HasEnded ⟦<FileVolume<H::File> as Volume>⟧ H.DatabaseFile.Disk H.File.tells (H.BlockFiles.holds host.old) (H.shown host.old) (record { before = W.contents out.old; after = W.contents out.new }) (record { before = E.contents err.old; after = E.contents err.new }) (L.remaining lines) order.entry.now) }
     ensures error { IfErr result IsProgramFailure }
+    ensures left_open { H.File.tells → IfOk result (λ ended. AreOpen (H.BlockFiles.is_open host.new) (H.is_database_open host.new) (path_of_volume order.entry.now.folder.now) (path_of_database order.entry.now.folder.now) ended × IsCopySpared (H.BlockFiles.holds host.old) (H.BlockFiles.holds host.new) (path_of_database order.entry.now.folder.now) ended) }
+    // The files of other paths stay.
+    ensures others { H.File.tells → AreSameOutside (H.BlockFiles.holds host.old) (H.BlockFiles.holds host.new) order.entry.now.folder.now }
+    ensures unopened { H.File.tells → ((blocks number : ℕ) → order.entry.now.deed ≢ Deed.Init blocks number) → OnErr result (H.BlockFiles.holds host.new (path_of_volume order.entry.now.folder.now) ≡ H.BlockFiles.holds host.old (path_of_volume order.entry.now.folder.now)) }
     // What is not done prints nothing.
     ensures silent { OnErr result (IsUnused (record { before = W.contents out.old; after = W.contents out.new }) × IsUnused (record { before = E.contents err.old; after = E.contents err.new })) }
 {
@@ -207,6 +216,9 @@ fn begin_in_folder<H: Host, W: Write, E: Write>(
 ) -> Result<FolderCallEnd<H::File, H::DatabaseFile>, ProgramError>
     ensures done { IfOk result (HasBegunInFolder ⟦<FileVolume<H::File> as Volume>⟧ H.DatabaseFile.Disk H.File.tells (H.BlockFiles.holds host.old) (H.shown host.old) (record { before = W.contents out.old; after = W.contents out.new }) (record { before = E.contents err.old; after = E.contents err.new }) order.entry.now blocks number) }
     ensures error { IfErr result IsProgramFailure }
+    ensures left_open { H.File.tells → IfOk result (λ ended. AreOpen (H.BlockFiles.is_open host.new) (H.is_database_open host.new) (path_of_volume order.entry.now.folder.now) (path_of_database order.entry.now.folder.now) ended × IsCopySpared (H.BlockFiles.holds host.old) (H.BlockFiles.holds host.new) (path_of_database order.entry.now.folder.now) ended) }
+    // The files of other paths stay.
+    ensures others { H.File.tells → AreSameOutside (H.BlockFiles.holds host.old) (H.BlockFiles.holds host.new) order.entry.now.folder.now }
     // What is not done prints nothing.
     ensures silent { OnErr result (IsUnused (record { before = W.contents out.old; after = W.contents out.new }) × IsUnused (record { before = E.contents err.old; after = E.contents err.new })) }
 {
@@ -225,6 +237,10 @@ fn batch_in_folder<H: Host, L: Read + Drop, W: Write, E: Write>(
 ) -> Result<FolderCallEnd<H::File, H::DatabaseFile>, ProgramError>
     ensures done { IfOk result (HasBatchedInFolder ⟦<FileVolume<H::File> as Volume>⟧ H.DatabaseFile.Disk H.File.tells (H.BlockFiles.holds host.old) (H.shown host.old) (record { before = W.contents out.old; after = W.contents out.new }) (record { before = E.contents err.old; after = E.contents err.new }) order.entry.now (L.remaining lines)) }
     ensures error { IfErr result IsProgramFailure }
+    ensures left_open { H.File.tells → IfOk result (λ ended. AreOpen (H.BlockFiles.is_open host.new) (H.is_database_open host.new) (path_of_volume order.entry.now.folder.now) (path_of_database order.entry.now.folder.now) ended × IsCopySpared (H.BlockFiles.holds host.old) (H.BlockFiles.holds host.new) (path_of_database order.entry.now.folder.now) ended) }
+    // The files of other paths stay.
+    ensures others { H.File.tells → AreSameOutside (H.BlockFiles.holds host.old) (H.BlockFiles.holds host.new) order.entry.now.folder.now }
+    ensures unopened { H.File.tells → OnErr result (H.BlockFiles.holds host.new (path_of_volume order.entry.now.folder.now) ≡ H.BlockFiles.holds host.old (path_of_volume order.entry.now.folder.now)) }
     // What is not done prints nothing.
     ensures silent { OnErr result (IsUnused (record { before = W.contents out.old; after = W.contents out.new }) × IsUnused (record { before = E.contents err.old; after = E.contents err.new })) }
 {
@@ -245,6 +261,10 @@ fn serve_in_folder<H: Host, W: Write, E: Write>(
 ) -> Result<FolderCallEnd<H::File, H::DatabaseFile>, ProgramError>
     ensures done { IfOk result (HasServedInFolder ⟦<FileVolume<H::File> as Volume>⟧ H.DatabaseFile.Disk H.File.tells (H.BlockFiles.holds host.old) (H.shown host.old) (record { before = W.contents out.old; after = W.contents out.new }) (record { before = E.contents err.old; after = E.contents err.new }) order.entry.now port requests until_closed) }
     ensures error { IfErr result IsProgramFailure }
+    ensures left_open { H.File.tells → IfOk result (λ ended. AreOpen (H.BlockFiles.is_open host.new) (H.is_database_open host.new) (path_of_volume order.entry.now.folder.now) (path_of_database order.entry.now.folder.now) ended × IsCopySpared (H.BlockFiles.holds host.old) (H.BlockFiles.holds host.new) (path_of_database order.entry.now.folder.now) ended) }
+    // The files of other paths stay.
+    ensures others { H.File.tells → AreSameOutside (H.BlockFiles.holds host.old) (H.BlockFiles.holds host.new) order.entry.now.folder.now }
+    ensures unopened { H.File.tells → OnErr result (H.BlockFiles.holds host.new (path_of_volume order.entry.now.folder.now) ≡ H.BlockFiles.holds host.old (path_of_volume order.entry.now.folder.now)) }
     // What is not done prints nothing.
     ensures silent { OnErr result (IsUnused (record { before = W.contents out.old; after = W.contents out.new }) × IsUnused (record { before = E.contents err.old; after = E.contents err.new })) }
 {
@@ -264,6 +284,10 @@ fn act_in_folder<H: Host, W: Write, E: Write>(
 ) -> Result<FolderCallEnd<H::File, H::DatabaseFile>, ProgramError>
     ensures done { IfOk result (HasActed ⟦<FileVolume<H::File> as Volume>⟧ H.DatabaseFile.Disk H.File.tells (H.BlockFiles.holds host.old) (H.shown host.old) (record { before = W.contents out.old; after = W.contents out.new }) (record { before = E.contents err.old; after = E.contents err.new }) order.entry.now part.now) }
     ensures error { IfErr result IsProgramFailure }
+    ensures left_open { H.File.tells → IfOk result (λ ended. AreOpen (H.BlockFiles.is_open host.new) (H.is_database_open host.new) (path_of_volume order.entry.now.folder.now) (path_of_database order.entry.now.folder.now) ended × IsCopySpared (H.BlockFiles.holds host.old) (H.BlockFiles.holds host.new) (path_of_database order.entry.now.folder.now) ended) }
+    // The files of other paths stay.
+    ensures others { H.File.tells → AreSameOutside (H.BlockFiles.holds host.old) (H.BlockFiles.holds host.new) order.entry.now.folder.now }
+    ensures unopened { H.File.tells → OnErr result (H.BlockFiles.holds host.new (path_of_volume order.entry.now.folder.now) ≡ H.BlockFiles.holds host.old (path_of_volume order.entry.now.folder.now)) }
     // What is not done prints nothing.
     ensures silent { OnErr result (IsUnused (record { before = W.contents out.old; after = W.contents out.new }) × IsUnused (record { before = E.contents err.old; after = E.contents err.new })) }
 {

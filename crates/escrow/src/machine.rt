@@ -1,6 +1,7 @@
 //! The machine itself. Each method is a call or two of `std` or of the database, and reveals nothing, since
 //! those say nothing of the bytes of files: that they follow the model is believed.
 ghost use Rattle.std.specs.Prelude.{None};
+ghost use Rattle.std.proofs.Common.{refl};
 
 use agent_program::{Database, FileKind, Host, Metadata};
 use http_api::{Clients, Listener, ServiceError};
@@ -30,12 +31,22 @@ impl<'r> BlockFiles for Machine<'r> {
 
     ghost holds = { λ _ _. None };
 
+    ghost is_open = { λ _ _. ⊥ };
+
+    ghost same_beside = { λ _ _. Unit {0} };
+
+    ghost beside_through = { λ _ _ _ _ same. same };
+
     fn find(&mut self, path: &str, access: Access) -> Result<HostFile, FileError> {
         HostFiles::new(self.rt).find(path, access)
     }
 
     fn make(&mut self, path: &str, blocks: u32) -> Result<HostFile, FileError> {
         HostFiles::new(self.rt).make(path, blocks)
+    }
+
+    fn close(&mut self, path: &str, file: HostFile) {
+        HostFiles::new(self.rt).close(path, file);
     }
 }
 
@@ -57,7 +68,13 @@ impl<'r> Host for Machine<'r> {
 
     ghost is_there = { λ _ _. ⊥ };
 
+    ghost is_database_open = { λ _ _. ⊥ };
+
     ghost held_is_there = { λ _ _ no _. absurd no };
+
+    ghost beside_open = { λ _ _ _ _ no. absurd no };
+
+    ghost beside_shown = { λ _ _ _. refl };
 
     fn alloc(&self) -> Global {
         self.rt.alloc()
@@ -103,6 +120,10 @@ impl<'r> Host for Machine<'r> {
 
     fn open_database(&mut self, path: &str) -> Result<Database<FileFrom<Wary>>, Error> {
         Connection::open_from(self.rt, path, false, Wary).map_err(|failed| failed.0)
+    }
+
+    fn close_database(&mut self, _path: &str, db: FileFrom<Wary>, log: FileFrom<Wary>) {
+        drop((db, log));
     }
 
     fn listen(&self, port: u16) -> Result<Listener<'r, HostRuntime>, ServiceError> {

@@ -5,8 +5,8 @@ use std::alloc::Global;
 use std::test::Fail;
 use std::{env, fs, process};
 use vault_volume::{
-    Access, BLOCK_BYTES, BlockFile, Extent, ExtentMap, FileError, FileVolume, HostFiles, MemFile,
-    MemFiles, MemVolume, Staged, Vault, Volume, read_head, write_head,
+    Access, BLOCK_BYTES, BlockFile, BlockFiles, Extent, ExtentMap, FileError, FileVolume,
+    HostFiles, MemFile, MemFiles, MemVolume, Staged, Vault, Volume, read_head, write_head,
 };
 
 const BLOCK: usize = BLOCK_BYTES as usize;
@@ -469,5 +469,21 @@ fn a_file_in_memory_is_opened_after_a_stop(rt: HostRuntime) -> Result<(), Fail> 
     assert_eq!(rt; read_back(&mut volume), *b"????\0\0\0\0");
     let (_, out) = held(rt.alloc(), volume);
     assert_eq!(rt; out.as_slice(), HELD.as_slice());
+    Ok(())
+}
+
+#[test]
+fn a_file_in_memory_is_opened_after_it_was_closed(rt: HostRuntime) -> Result<(), Fail> {
+    let mut files = MemFiles::new(rt.alloc(), format!(in rt.alloc(); "a")?, 5, 2);
+    let mut volume = FileVolume::create(&mut files, "a", 3)?;
+    assert!(rt; is_written(&mut volume));
+    files.close("a", volume.into_file());
+    let mut volume = FileVolume::open(&mut files, "a", Access::ReadAndWrite)?;
+    assert_eq!(rt; read_back(&mut volume), *b"lost\0\0\0\0");
+    // Its bytes are settled.
+    let fill = vec![in rt.alloc(); b'?'; 3 * BLOCK]?;
+    stop(&mut files, volume, &fill);
+    let mut volume = FileVolume::open(&mut files, "a", Access::ReadAndWrite)?;
+    assert_eq!(rt; read_back(&mut volume), *b"lost\0\0\0\0");
     Ok(())
 }

@@ -67,9 +67,12 @@ impl<F: BlockFile> FileVolume<F> {
         ensures settled { F.tells → IfOk result (λ v. LeavesOneImage (⟦<FileVolume<F> as Volume>⟧.image v) (⟦<FileVolume<F> as Volume>⟧.left_at v (⟦<FileVolume<F> as Volume>⟧.moment v))) }
         ensures made { IfOk result (λ v. is_new_file v ≡ true) }
         ensures opened { F.tells → OnOk result (H.holds files.new path.now ≡ None) }
+        ensures open { F.tells → OnOk result (H.is_open files.new path.now) }
         ensures locked { F.tells → IsErrOf result FileError.Locked → H.holds files.new path.now ≡ H.holds files.old path.now }
         // The files of other paths stay.
         ensures others { F.tells → (other : List ℕ) → other ≢ path.now → H.holds files.new other ≡ H.holds files.old other }
+        ensures others_open { F.tells → (other : List ℕ) → other ≢ path.now → H.is_open files.old other → H.is_open files.new other }
+        ensures beside { H.same_beside files.old files.new }
         ensures kind { IfErr result IsNotOfLength }
     {
         let file = files.make(path, blocks)?;
@@ -93,28 +96,32 @@ impl<F: BlockFile> FileVolume<F> {
         ensures settled { F.tells → IfOk result (λ v. LeavesOneImage (⟦<FileVolume<F> as Volume>⟧.image v) (⟦<FileVolume<F> as Volume>⟧.left_at v (⟦<FileVolume<F> as Volume>⟧.moment v))) }
         ensures found { IfOk result (λ v. is_new_file v ≡ false) }
         ensures opened { F.tells → OnOk result (H.holds files.new path.now ≡ None) }
+        ensures open { F.tells → OnOk result (H.is_open files.new path.now) }
+        ensures unopened { F.tells → OnErr result (H.holds files.new path.now ≡ H.holds files.old path.now) }
         // The files of other paths stay.
         ensures others { F.tells → (other : List ℕ) → other ≢ path.now → H.holds files.new other ≡ H.holds files.old other }
+        ensures others_open { F.tells → (other : List ℕ) → other ≢ path.now → H.is_open files.old other → H.is_open files.new other }
+        ensures beside { H.same_beside files.old files.new }
     {
         let file = files.find(path, access)?;
-        let bytes = file.len().map_err(FileError::Io)?;
-        FileVolume::of_length(file, bytes)
+        match FileVolume::blocks_of(&file) {
+            Ok(blocks) => Ok(FileVolume::over(file, blocks, false)),
+            Err(error) => {
+                files.close(path, file);
+                Err(error)
+            }
+        }
     }
 
-    // The volume that is a file of so many bytes, where they are blocks.
-    fn of_length(file: F, bytes: u64) -> Result<FileVolume<F>, FileError>
-        requires length { F.tells → length (F.image file) ≡ bytes }
-        requires fresh { F.failures file ≡ 0 }
-        ensures size { IfOk result (λ v. 4096 * ⟦<FileVolume<F> as Volume>⟧.size v ≡ bytes) }
-        ensures failures { IfOk result (λ v. ⟦<FileVolume<F> as Volume>⟧.failures v ≡ 0) }
-        ensures file { IfOk result (λ v. block_file_of v ≡ file) }
-        ensures found { IfOk result (λ v. is_new_file v ≡ false) }
-        ensures refused { IfErr result (λ e. (e ≡ FileError.WrongLength bytes) × ((blocks : ℕ) → blocks < 2 ^ 32 → 4096 * blocks ≢ bytes)) }
+    // How many blocks a file has, where its bytes are blocks.
+    fn blocks_of(file: &F) -> Result<u32, FileError>
+        ensures blocks { F.tells → IfOk result (λ blocks. length (F.image file.now) ≡ 4096 * blocks) }
+        ensures refused { IfErr result IsRefusedRightly }
+        ensures length { F.tells → IfErr result (λ e. (bytes : ℕ) → e ≡ FileError.WrongLength bytes → length (F.image file.now) ≡ bytes) }
+        ensures kind { IfErr result (λ e. (e ≢ FileError.Missing) × (e ≢ FileError.Locked)) }
     {
-        match whole_blocks(bytes) {
-            Some(blocks) => Ok(FileVolume::over(file, blocks, false)),
-            None => Err(FileError::WrongLength { bytes }),
-        }
+        let bytes = file.len().map_err(FileError::Io)?;
+        whole_blocks(bytes).ok_or(FileError::WrongLength { bytes })
     }
 
     fn over(file: F, blocks: u32, is_new: bool) -> FileVolume<F>

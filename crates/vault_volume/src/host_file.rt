@@ -63,6 +63,12 @@ impl<'a, R: Files<File = File>> BlockFiles for HostFiles<'a, R> {
 
     ghost holds = { λ _ _. None };
 
+    ghost is_open = { λ _ _. ⊥ };
+
+    ghost same_beside = { λ _ _. Unit {0} };
+
+    ghost beside_through = { λ _ _ _ _ same. same };
+
     /// Where the file is opened only to be read, each call that writes fails.
     fn find(&mut self, path: &str, access: Access) -> Result<HostFile, FileError> {
         let is_written = matches!(access, Access::ReadAndWrite);
@@ -86,6 +92,10 @@ impl<'a, R: Files<File = File>> BlockFiles for HostFiles<'a, R> {
         )?;
         zero(&opened.file, blocks).map_err(FileError::Io)?;
         Ok(opened)
+    }
+
+    fn close(&mut self, _path: &str, file: HostFile) {
+        drop(file);
     }
 }
 

@@ -1,7 +1,5 @@
 //! A machine in memory, for tests and for theorems: its one file is a `MemVolume`.
 ghost use Rattle.std.specs.Prelude.{◌≡◌, ℕ, List, Some, None, length, string_bytes, is_ok, is_some};
-ghost use Rattle.std.specs.Option.{ForSome};
-ghost use Rattle.vault_volume.specs.inside.MemVolume.{IsUncalled};
 
 use crate::{Access, BLOCK_BYTES, BlockFile, BlockFiles, Failed, FileError, MemVolume, Volume};
 use std::alloc::Global;
@@ -55,7 +53,6 @@ pub struct MemFiles {
     calls: usize,
     syncs: usize,
     volume: Option<MemVolume>,
-    ghost uncalled: { ForSome volume IsUncalled },
 }
 
 impl MemFiles {
@@ -95,11 +92,17 @@ impl MemFiles {
 }
 
 impl BlockFiles for MemFiles {
-    ghost use Rattle.vault_volume.specs.MemFile.{held_at};
+    ghost use Rattle.vault_volume.specs.MemFile.{IsOpenAt, held_at};
 
     type File = MemFile;
 
     ghost holds = { held_at };
+
+    ghost is_open = { IsOpenAt };
+
+    ghost same_beside = { λ _ _. Unit {0} };
+
+    ghost beside_through = { λ _ _ _ _ same. same };
 
     /// The file may be written, whatever it is opened for.
     fn find(&mut self, path: &str, _access: Access) -> Result<MemFile, FileError> {
@@ -107,7 +110,10 @@ impl BlockFiles for MemFiles {
             return Err(FileError::Missing);
         }
         match self.volume.take() {
-            Some(volume) => Ok(MemFile { volume }),
+            Some(mut volume) => {
+                volume.reopen();
+                Ok(MemFile { volume })
+            }
             None => Err(FileError::Missing),
         }
     }
@@ -123,5 +129,9 @@ impl BlockFiles for MemFiles {
             }
             Err(_) => Err(FileError::Io(io::Error::from(io::ErrorKind::OutOfMemory))),
         }
+    }
+
+    fn close(&mut self, _path: &str, file: MemFile) {
+        self.volume = Some(file.volume);
     }
 }

@@ -35,7 +35,3 @@ pub record FollowsScript (old new : MemVolume) (FindsRoom Answers : Type 0) : Ty
   pub same_room : call_room new ≡ call_room old
   pub buffers : sync_room old ≤ sync_room new + 1
   pub same_script : (number : ℕ) → WillFail new number ↔ WillFail old number
-
--- no call of it since it was made or last restarted
-abbrev pub IsUncalled : MemVolume → Type 0
-IsUncalled volume = (call_count volume ≡ 0) × (volume.refused ≡ 0) × (volume.failures ≡ 0) × (volume.image.items ≡ volume.start.items)

@@ -1,4 +1,5 @@
 use Rattle.std.proofs.Common.{◌∙◌, sym}
+use Rattle.agent_program.proofs.HostLemmas.{database_is_other, log_is_other}
 use Rattle.agent_program.proofs.program.act_in_folder.Goals as goal
 
 pub returns-then-branch-clause-done : goal.returns-then-branch-clause-done
@@ -27,3 +28,12 @@ returns-clause-done g c = (
     ends = c.open_and_act-ended-2.ensures;
   },
 )
+
+pub returns-then-branch-clause-left_open : goal.returns-then-branch-clause-left_open
+returns-then-branch-clause-left_open g c = λ reveals.
+    let folder = c.args.order.now.folder.now in
+    let others = c.open_folder_to_read.ensures.others reveals in
+    (c.in_ok-found.ensures.open reveals, (others _ (database_is_other folder), others _ (log_is_other folder)))
+
+pub returns-then-branch-clause-others : goal.returns-then-branch-clause-others
+returns-then-branch-clause-others g c = λ reveals path away. c.open_folder_to_read.ensures.others reveals path away.0

@@ -7,8 +7,7 @@ returns-clause-done g c = (
   record {
     found = c.in_ok-found.ensures.found;
     held_then = _;
-    shown_then = _;
     others = c.open_folder.ensures.others;
-    ends = c.batch.ensures;
+    ends = rw c.open_folder.ensures.moment at c.batch.ensures;
   },
 )
