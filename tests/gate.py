@@ -11,7 +11,7 @@ built by then fails.
 
 The output of a step stands in out/gate/N.log while it runs, and is printed when it ends. Then come two tables, which
 `bench/keep.py --gate` keeps: the minutes of each step, and the minute at which `rt ci` had proved each crate. The last
-lines say how much memory and disk stayed free, and count the steps.
+lines say how much memory and disk stayed free, show again how each step that failed ended, and count the steps.
 
 If less than 1 GB of disk is free, the gate ends all steps and says so. By itself `rt ci` would blame a contract.
 
@@ -37,6 +37,8 @@ LOGS = TOP / "out" / "gate"
 TICK, GRACE = 0.2, 10
 # The disk that has to stay free, in GB.
 LEAST_DISK = 1
+# The lines of a failed step that are shown again at the end.
+LAST = 10
 # What ends the gate, and all that it has started.
 SIGNALS = (signal.SIGINT, signal.SIGTERM, signal.SIGHUP)
 
@@ -166,6 +168,11 @@ class Running:
         sys.stdout.buffer.write(text + b"\n" * (not text.endswith(b"\n")))
         print(*([f"FAILED: {self.step.command}: {self.why}"] if self.why else []), sep="\n", flush=True)
 
+    def show_end(self) -> None:
+        """Prints why the step failed, and the last lines of its output."""
+        last = self.log.read_text(errors="replace").splitlines()[-LAST:]
+        print(f"{self.step.command} failed ({self.why}):", *(f"    {it}" for it in last), sep="\n")
+
 
 # ---- what `rt ci` says
 
@@ -258,8 +265,12 @@ class Gate:
         print(table(("step", "minutes by the clock", "of the processor"), [*steps, every]))
         print(table(("crate", "proved at minute", "after those below", "its tests", "edits"), self.crates.rows()))
         print(f"At least {self.memory:.1f} GB of memory and {self.disk:.1f} GB of disk stayed free.")
-        failed = sum(bool(it.why) for it in self.ended)
-        return tell(len(self.ended) - failed, failed + len(self.left))
+        failed = [it for it in self.ended if it.why]
+        for it in failed:
+            it.show_end()
+        for it in self.left:
+            print(f"{it.command} did not begin")
+        return tell(len(self.ended) - len(failed), len(failed) + len(self.left))
 
     def run(self) -> int:
         shutil.rmtree(LOGS, ignore_errors=True)

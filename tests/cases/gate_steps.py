@@ -25,7 +25,7 @@ def prepare(room: Room, rt: str, broken: str = "", below: str = "") -> None:
         shutil.copy(TOP / it, room.file(below + it, ""))
     stub(room, f"{below}rt", rt)
     for name in {shlex.split(it.command)[0] for it in SCRIPTS}:
-        stub(room, below + name, "exit 1" if name == broken else "echo it ran")
+        stub(room, below + name, "echo it broke; exit 1" if name == broken else "echo it ran")
 
 
 def commands(*crates: str) -> list[str]:
@@ -54,6 +54,9 @@ def the_gate(room: Room, lost: str, broken: str, failed: list[str]) -> None:
     said = done.out.decode()
     room.equal(failed, re.findall(r"^FAILED: ([^:]*):", said, re.MULTILINE), f"what failed in\n{said}")
     room.equal(bool(failed), bool(done.status), "the status")
+    end = said[said.rindex("| crate |"):]
+    room.equal({*failed}, {*re.findall(r"^(\S.*) (?:failed \(status \d+\):|did not begin)$", end, re.MULTILINE)}, end)
+    room.equal(bool(broken), "\n    it broke\n" in end, end)
     room.true(f"\n{len(SCRIPTS) + 1 - len(failed)} passed, {len(failed)} failed, 0 skipped\n" in said, said)
     room.equal(len(SCRIPTS) - len({*failed} - {"rt ci"}), said.count("\nit ran\n"), f"the scripts that ran in\n{said}")
 

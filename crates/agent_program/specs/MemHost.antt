@@ -28,8 +28,8 @@ abbrev pub IsThereIn : MemHost → List ℕ → Type 0
 IsThereIn h path = ((path ≡ codes "/dev/null") × (is_database h path ≡ false)) ⊎ IsSome (held_in h path)
 
 -- a volume is open by a path
-abbrev pub IsOpenIn : MemHost → List ℕ → Type 0
-IsOpenIn h path = (is_beside h path ≡ false) × IsOpenAt h.volumes path
+abbrev pub IsVolumeOpenIn : MemHost → List ℕ → Type 0
+IsVolumeOpenIn h path = (is_beside h path ≡ false) × IsOpenAt h.volumes path
 
 -- the database is open by a path
 abbrev pub IsDatabaseOpenIn : MemHost → List ℕ → Type 0

@@ -138,13 +138,13 @@ impl<'r> MemHost<'r> {
 }
 
 impl<'r> BlockFiles for MemHost<'r> {
-    ghost use Rattle.agent_program.specs.MemHost.{IsOpenIn, IsSameBeside, held_in};
+    ghost use Rattle.agent_program.specs.MemHost.{IsVolumeOpenIn, IsSameBeside, held_in};
 
     type File = MemFile;
 
     ghost holds = { held_in };
 
-    ghost is_open = { IsOpenIn };
+    ghost is_open = { IsVolumeOpenIn };
 
     ghost same_beside = { IsSameBeside };
 
